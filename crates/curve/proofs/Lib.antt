@@ -1,0 +1,4 @@
+pub mod Answers
+pub mod Shares
+pub mod LpTokens
+pub mod Edges

@@ -1,0 +1,4 @@
+pub mod Answer
+pub mod Fees
+pub mod ConstantProduct
+pub mod Stages

@@ -1,0 +1,11 @@
+pub mod Halves
+pub mod Words
+pub mod Digit
+pub mod Long
+pub mod Rounding
+pub mod Answers
+pub mod Shares
+pub mod Halving
+pub mod Newton
+pub mod WholeRoot
+pub mod Curve

@@ -1,0 +1,5 @@
+pub mod Value
+pub mod Division
+pub mod Ratio
+pub mod Root
+pub mod Steps
