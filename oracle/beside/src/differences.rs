@@ -1,0 +1,254 @@
+//! The rows of docs/DIFFERENCES.md, run: each with what the Rust does and what document 01
+//! answers.
+
+use crate::verdict::{verdict, Verdict};
+use record::{Case, State, POOL_COLUMNS};
+use runner::{Cause, Outcome};
+
+struct Row {
+    /// As docs/DIFFERENCES.md counts it.
+    row: &'static str,
+    case: Case,
+    rust: &'static str,
+    port: u64,
+}
+
+const MOST: u64 = u64::MAX;
+const HALF: u64 = 1 << 63;
+const WORKED: [(&str, u64); 6] = [
+    ("vault 0", 1_000_000),
+    ("vault 1", 4_000_000),
+    ("supply", 2_000_000),
+    ("trade rate", 2500),
+    ("protocol rate", 120_000),
+    ("fund rate", 40_000),
+];
+
+/// Prints each row; whether both sides are as the page says.
+pub fn all() -> bool {
+    let rows = rows();
+    let right = rows.iter().filter(|row| row.holds()).count();
+    println!("{right} of {} rows as docs/DIFFERENCES.md says", rows.len());
+    right == rows.len()
+}
+
+pub fn cases() -> Vec<Case> {
+    rows().into_iter().map(|row| row.case).collect()
+}
+
+fn rows() -> Vec<Row> {
+    [
+        limits(),
+        added(),
+        full_vaults(),
+        panics_of_swaps(),
+        panics_of_counters(),
+        panics_of_liquidity(),
+        ring(),
+        wide(),
+        alone(),
+    ]
+    .into_iter()
+    .flatten()
+    .collect()
+}
+
+fn row(row: &'static str, case: Case, rust: &'static str, port: u64) -> Row {
+    Row { row, case, rust, port }
+}
+
+/// A call on a pool of zeros but for these columns.
+fn on(columns: &[(&str, u64)], kind: u64, arguments: &[u64]) -> Case {
+    let mut words = [0; 21];
+    for (name, value) in columns {
+        let at = POOL_COLUMNS.iter().position(|column| column == name).expect("the pool has this column");
+        words[at] = *value;
+    }
+    let pool = record::Pool::from_words(&words).expect("yes and no are given as 1 and 0");
+    let ring = record::filled_ring(pool.head.index, [0; 5]);
+    Case::of_call(&State { pool, ring }, kind, arguments)
+}
+
+fn worked(more: &[(&str, u64)], kind: u64, arguments: &[u64]) -> Case {
+    on(&[&WORKED[..], more].concat(), kind, arguments)
+}
+
+fn function(kind: u64, columns: &[u64]) -> Case {
+    Case { kind, columns: columns.to_vec() }
+}
+
+fn limits() -> Vec<Row> {
+    let swap = &[0, 10_000, 0, 0];
+    vec![
+        row("B1", worked(&[("trade rate", 1_000_000)], 2, swap), "10", 3),
+        row("B2", worked(&[("trade rate", 1_000_001)], 2, swap), "4", 3),
+        row("B3", worked(&[("protocol rate", 1_000_001), ("fund rate", 0)], 2, swap), "accepts", 3),
+        row("B4", worked(&[("creator rate", 997_500)], 2, swap), "accepts", 3),
+        row(
+            "B5",
+            worked(&[("creator rate", MOST), ("enabled", 1)], 2, swap),
+            "panics at calculator.rs:109",
+            3,
+        ),
+        row(
+            "B6",
+            worked(&[("trade rate", 1_000_000)], 3, &[0, 1, MOST, 0]),
+            "panics at calculator.rs:178",
+            3,
+        ),
+        row("B7", worked(&[("trade rate", 1_000_000), ("status", 4)], 2, swap), "1", 3),
+        row("B8", worked(&[("trade rate", 1_000_000)], 3, &[0, 0, 0, 0]), "10", 3),
+    ]
+}
+
+fn added() -> Vec<Row> {
+    vec![
+        row("B9", function(1, &[101, 101, 0, 0, 0, 0, 0, 0, 0, 0]), "has none", 0),
+        row("B10", function(1, &[100, 100, 0, 0, 0, 0, 0, 0, 0, 0]), "has none", 13),
+        row("B11", on(&[], 7, &[3, 0]), "has none", 3),
+        row("B12", on(&[], 7, &[0, 2]), "has none", 3),
+        row("B13", on(&[("vault 1", 1), ("creator 1", 1)], 6, &[0]), "accepts", 0),
+        row("B14", on(&[("creator 1", 1)], 6, &[0]), "accepts", 7),
+    ]
+}
+
+fn full_vaults() -> Vec<Row> {
+    let one_by_two = [("vault 0", 1), ("vault 1", 2), ("fee model", 2)];
+    let half_by_two = [("vault 0", HALF), ("vault 1", 2), ("fee model", 2)];
+    let lp = [("vault 0", HALF), ("vault 1", 1), ("supply", 1)];
+    vec![
+        row("B15", on(&one_by_two, 2, &[0, MOST, 0, 0]), "8 of the stand-in", 8),
+        row("B16", on(&half_by_two, 3, &[0, 1, MOST, 0]), "8 of the stand-in", 8),
+        row("B17", on(&lp, 4, &[1, MOST, MOST]), "8 of the stand-in", 8),
+    ]
+}
+
+fn panics_of_swaps() -> Vec<Row> {
+    let one_by_one = [("vault 0", 1), ("vault 1", 1)];
+    let creator =
+        [("vault 0", 1 << 45), ("vault 1", 1), ("fee model", 2), ("enabled", 1), ("creator rate", 999_999)];
+    let past = [("vault 0", HALF), ("vault 1", 3), ("fee model", 2)];
+    let past_with_fee = [("vault 0", HALF), ("vault 1", 2), ("trade rate", 500_000)];
+    let far = [("vault 0", MOST), ("vault 1", MOST), ("trade rate", 1)];
+    let far_on_output = [("vault 0", MOST), ("vault 1", MOST), ("fee model", 2), ("trade rate", 1)];
+    vec![
+        row("C1", on(&[], 2, &[0, 1, 0, 0]), "panics at pool.rs:251", 11),
+        row("C1", on(&[("vault 0", 1)], 2, &[0, 1, 0, 0]), "panics at pool.rs:252", 11),
+        row("C2", on(&one_by_one, 3, &[0, 1, MOST, 0]), "panics at constant_product.rs:41", 11),
+        row("C3", on(&one_by_one, 3, &[0, 2, MOST, 0]), "panics at constant_product.rs:40", 11),
+        row("C4", on(&creator, 3, &[0, MOST, MOST, 0]), "panics at constant_product.rs:39", 11),
+        row("C5", on(&past, 3, &[0, 2, MOST, 0]), "panics at swap_base_output.rs:79", 11),
+        row("C6", on(&past_with_fee, 3, &[0, 1, MOST, 0]), "panics at swap_base_output.rs:79", 11),
+        row("C7", on(&far, 3, &[0, MOST - 1, MOST, 0]), "panics at calculator.rs:178", 11),
+        row("C7", on(&far_on_output, 3, &[0, MOST - 1, MOST, 0]), "panics at calculator.rs:185", 11),
+    ]
+}
+
+/// A counter of nearly the whole vault, beside a net of 2 and rates that give all to it.
+fn panics_of_counters() -> Vec<Row> {
+    let full = MOST - 2;
+    let pool = |counter, rate, more: &[(&'static str, u64)]| {
+        let columns =
+            [("vault 0", MOST), ("vault 1", 4), (counter, full), ("trade rate", 500_000), (rate, 1_000_000)];
+        on(&[&columns[..], more].concat(), 2, &[0, 6, 0, 0])
+    };
+    let creator =
+        [("vault 0", MOST), ("vault 1", 4), ("creator 0", full), ("enabled", 1), ("creator rate", 500_000)];
+    vec![
+        row("C8", pool("protocol 0", "protocol rate", &[]), "panics at pool.rs:367", 11),
+        row("C8", pool("fund 0", "fund rate", &[]), "panics at pool.rs:368", 11),
+        row("C8", on(&creator, 2, &[0, 6, 0, 0]), "panics at pool.rs:372", 11),
+    ]
+}
+
+fn panics_of_liquidity() -> Vec<Row> {
+    let lp = |vault_0, vault_1, supply| [("vault 0", vault_0), ("vault 1", vault_1), ("supply", supply)];
+    vec![
+        row("C9", on(&lp(2, 1, 1), 4, &[HALF, MOST, MOST]), "panics at deposit.rs:114", 11),
+        row("C9", on(&lp(1, 2, 1), 4, &[HALF, MOST, MOST]), "panics at deposit.rs:124", 11),
+        row(
+            "C10",
+            on(&lp(1, 1, 2), 4, &[MOST - 1, MOST, MOST]),
+            "panics at deposit.rs:192 after booking",
+            11,
+        ),
+        row("C11", on(&lp(2, 1, 1), 5, &[HALF, HALF, 0, 0]), "panics at withdraw.rs:127", 11),
+        row("C11", on(&lp(1, 2, 1), 5, &[HALF, HALF, 0, 0]), "panics at withdraw.rs:138", 11),
+        row("C12", on(&lp(1, 1, 1), 5, &[2, 2, 0, 0]), "panics at withdraw.rs:178", 11),
+    ]
+}
+
+fn ring() -> Vec<Row> {
+    let past_its_end =
+        |used| [("vault 0", 1), ("vault 1", 2), ("fee model", 2), ("ring used", used), ("ring index", 100)];
+    let swap = &[0, 1, 0, 0];
+    let counters = [("protocol 1", MOST), ("creator 0", 1), ("creator 1", 1), ("vault 0", 1)];
+    vec![
+        row("C13", on(&past_its_end(0), 2, swap), "panics at oracle.rs:88 after booking", 11),
+        row("C13", on(&past_its_end(1), 2, swap), "panics at oracle.rs:94 after booking", 11),
+        row("A8", on(&counters, 6, &[1_000_000]), "8 after booking", 8),
+        row("A9", function(30, &[1, 0, 0, 1, 0, 0, 0, 0, 3, HALF, 0, 0, 0]), "8 after booking", 8),
+    ]
+}
+
+fn wide() -> Vec<Row> {
+    let steep = [("vault 0", FAR), ("vault 1", FAR), ("trade rate", 999_999), ("protocol rate", 1_000_000)];
+    vec![
+        row("D1", on(&steep, 3, &[0, FAR - 1, MOST, 0]), "4", 11),
+        row("E1", on(&[("status", 256)], 7, &[0, 0]), "has none", 0),
+        row("E1", on(&[("fee model", 256)], 7, &[0, 0]), "has none", 0),
+        row("E1", on(&[("ring index", 65_536)], 7, &[0, 0]), "has none", 0),
+    ]
+}
+
+/// The least nets, both alike, at which the Rust says 4.
+const FAR: u64 = 18_446_753_297_090;
+
+fn alone() -> Vec<Row> {
+    let million = 1_000_001;
+    let mut rows: Vec<Row> = [11, 12, 14]
+        .map(|kind| row("D2", function(kind, &[million, MOST]), "gives 18446762520453625324", 8))
+        .into();
+    rows.extend(
+        [10, 13].map(|kind| row("D2", function(kind, &[million, MOST]), "gives 18446762520453625325", 8)),
+    );
+    rows.extend([
+        row("D3", function(16, &[18_446_744_073_710, 999_999]), "gives 18446744073710000000", 8),
+        row("D4", function(15, &[0, MOST, 1]), "panics at fees.rs:82", 8),
+        row("D5", function(21, &[2, HALF, 3]), "gives 18446744073709551616", 11),
+        row("D6", function(22, &[2, 1, HALF, 0, 0]), "gives 18446744073709551616 0", 11),
+        row("C14", function(20, &[0, 0, 0]), "panics at constant_product.rs:28", 11),
+        row("C14", function(21, &[0, 0, 0]), "panics at constant_product.rs:41", 11),
+        row("C14", function(21, &[1, 0, 0]), "panics at constant_product.rs:40", 11),
+    ]);
+    rows
+}
+
+impl Row {
+    fn holds(&self) -> bool {
+        let verdict = verdict(&self.case);
+        let (rust, port) = (rust_says(&verdict), verdict.document.number);
+        let right = rust == self.rust && port == self.port;
+        let mark = if right { "ok" } else { "FAIL" };
+        println!("{:4} {mark}: {}\n     the Rust: {rust}; document 01: {port}", self.row, self.case.line());
+        right
+    }
+}
+
+fn rust_says(verdict: &Verdict) -> String {
+    let (answer, booked, cause) = match &verdict.original {
+        Outcome::Absent(_) => return "has none".into(),
+        Outcome::Wide(results) => {
+            let results: Vec<String> = results.iter().map(u128::to_string).collect();
+            return format!("gives {}", results.join(" "));
+        }
+        Outcome::Answered { answer, booked, cause } => (answer, booked, cause),
+    };
+    let late = if booked.is_empty() { "" } else { " after booking" };
+    match cause {
+        Cause::None => "accepts".into(),
+        Cause::Panic(place) => format!("panics at {place}{late}"),
+        Cause::StandIn => format!("{} of the stand-in{late}", answer.number),
+        Cause::Check => format!("{}{late}", answer.number),
+    }
+}

@@ -1,0 +1,238 @@
+//! Document 01's worked example and its edges, answered by both sides. Openings are added
+//! by document 01, so there the original has no answer.
+
+use crate::verdict::verdict;
+use record::{Answer, Call, Case, State, ENTRY_COLUMNS, POOL_COLUMNS, RECEIPT_COLUMNS};
+use runner::Outcome;
+
+/// What document 01 says: a number, and some columns of the answer.
+struct Edge {
+    says: &'static str,
+    case: Case,
+    number: u64,
+    columns: Vec<(&'static str, u64)>,
+}
+
+const RATES: [u64; 5] = [2500, 120_000, 40_000, 0, 0];
+const CREATOR_RATES: [u64; 5] = [2500, 120_000, 40_000, 1000, 0];
+const WORKED_OUTPUT: [&str; 3] = [
+    " 0                   0                   0                   0                   0                   0",
+    " 0                   0                   0             1000000             4000000             2000000",
+    " 0               10000               39505             1009996             3960495             2000000",
+];
+
+/// Prints each edge; whether all are as document 01 says.
+pub fn all() -> bool {
+    let worked = worked_example();
+    let edges = edges();
+    let right = edges.iter().filter(|edge| edge.holds()).count();
+    println!("{right} of {} edges as document 01 says", edges.len());
+    worked && right == edges.len()
+}
+
+/// The edges as cases, for the sample.
+pub fn cases() -> Vec<Case> {
+    edges().into_iter().map(|edge| edge.case).collect()
+}
+
+fn edges() -> Vec<Edge> {
+    [calls(), creator_fees(), openings(), rate_limits(), ring()].into_iter().flatten().collect()
+}
+
+fn opening(amounts: [u64; 2], model: u64, enabled: u64, rates: [u64; 5]) -> Case {
+    Case { kind: 1, columns: [&amounts[..], &[model, enabled, 0], &rates].concat() }
+}
+
+fn opened(model: u64, enabled: u64, rates: [u64; 5]) -> State {
+    let case = opening([1_000_000, 4_000_000], model, enabled, rates);
+    model::run(&case.state(), &case.call().expect("an opening is a call")).state
+}
+
+fn edge(says: &'static str, case: Case, number: u64, columns: &[(&'static str, u64)]) -> Edge {
+    Edge { says, case, number, columns: columns.to_vec() }
+}
+
+fn calls() -> Vec<Edge> {
+    let pool = opened(0, 0, RATES);
+    let call = |kind, arguments: &[u64]| Case::of_call(&pool, kind, arguments);
+    let most = u64::MAX;
+    vec![
+        edge(
+            "by output 39,505 costs 10,000",
+            call(3, &[0, 39_505, most, 100]),
+            0,
+            &[("in 0", 10_000), ("out 1", 39_505)],
+        ),
+        edge("by output 4,000,000 is 11", call(3, &[0, 4_000_000, most, 100]), 11, &[]),
+        edge("input 1 is 10", call(2, &[0, 1, 0, 100]), 10, &[]),
+        edge("fee on 2 is 1", Case { kind: 10, columns: vec![2, 2500] }, 0, &[("result", 1)]),
+        edge("deposit LP 1 is 4", call(4, &[1, most, most]), 4, &[]),
+        edge(
+            "deposit LP 3 takes 2 and 6",
+            call(4, &[3, most, most]),
+            0,
+            &[("in 0", 2), ("in 1", 6), ("supply", 2_000_003)],
+        ),
+        edge(
+            "withdrawal of 3 gives 1 and 6",
+            call(5, &[3, 3, 0, 0]),
+            0,
+            &[("out 0", 1), ("out 1", 6), ("supply", 1_999_997)],
+        ),
+    ]
+}
+
+fn creator_fees() -> Vec<Edge> {
+    let swap = |model, enabled, rates| Case::of_call(&opened(model, enabled, rates), 2, &[0, 10_000, 0, 100]);
+    vec![
+        edge(
+            "enabled creator rate 1,000: 10,000 in pays creator 10, trade 25",
+            swap(0, 1, CREATOR_RATES),
+            0,
+            &[("creator fee", 10), ("trade fee", 25), ("creator fee's token", 0)],
+        ),
+        edge(
+            "model 2, token 0 in: creator 40, out 39,465",
+            swap(2, 1, CREATOR_RATES),
+            0,
+            &[("creator fee", 40), ("out 1", 39_465), ("creator fee's token", 1)],
+        ),
+        edge(
+            "model 2, token 0 in: curve 39,505",
+            Case { kind: 20, columns: vec![9975, 1_000_000, 4_000_000] },
+            0,
+            &[("result", 39_505)],
+        ),
+        edge("trade and creator rate 0, fee on input: 4", swap(0, 0, [0, 120_000, 40_000, 0, 0]), 4, &[]),
+    ]
+}
+
+fn openings() -> Vec<Edge> {
+    vec![
+        edge("opening 100 by 100 is 13", opening([100, 100], 0, 0, RATES), 13, &[]),
+        edge("opening 101 by 101 is accepted", opening([101, 101], 0, 0, RATES), 0, &[("supply", 101)]),
+        edge(
+            "opening at trade + creator 999,999 passes",
+            opening([1_000_000, 4_000_000], 0, 0, [999_000, 0, 0, 999, 0]),
+            0,
+            &[("supply", 2_000_000)],
+        ),
+        edge(
+            "opening at 1,000,000 is 3",
+            opening([1_000_000, 4_000_000], 0, 0, [999_000, 0, 0, 1000, 0]),
+            3,
+            &[],
+        ),
+    ]
+}
+
+fn rate_limits() -> Vec<Edge> {
+    let swap = |creator| {
+        let mut pool = opened(0, 0, [999_000, 0, 0, 999, 0]);
+        pool.pool.rates.creator = creator;
+        Case::of_call(&pool, 2, &[0, 10_000, 0, 100])
+    };
+    vec![
+        edge(
+            "swap at trade + creator 999,999 passes",
+            swap(999),
+            0,
+            &[("in 0", 10_000), ("trade fee", 9990)],
+        ),
+        edge("swap at 1,000,000 is 3", swap(1000), 3, &[]),
+    ]
+}
+
+/// After clock 100, a swap at 114 overwrites, at 115 advances.
+fn ring() -> Vec<Edge> {
+    let pool = opened(0, 0, RATES);
+    let first = Call::from_words(2, &[0, 10_000, 0, 100]).expect("a swap takes four words");
+    let used = model::run(&pool, &first).state;
+    let swap = |clock| Case::of_call(&used, 2, &[0, 10_000, 0, clock]);
+    let first_case = Case::of_call(&pool, 2, &[0, 10_000, 0, 100]);
+    let price_0 = 3_960_495 * (1 << 32) / 1_009_996;
+    vec![
+        edge(
+            "first use writes the clock 100",
+            first_case,
+            0,
+            &[("ring index", 0), ("entry clock", 100), ("sum 0 low", 0)],
+        ),
+        edge(
+            "after clock 100, a swap at 114 overwrites",
+            swap(114),
+            0,
+            &[("ring index", 0), ("ring mark", 114), ("entry clock", 100), ("sum 0 low", price_0 * 14)],
+        ),
+        edge(
+            "after clock 100, a swap at 115 advances",
+            swap(115),
+            0,
+            &[("ring index", 1), ("ring mark", 115), ("entry clock", 115), ("sum 0 low", price_0 * 15)],
+        ),
+    ]
+}
+
+impl Edge {
+    fn holds(&self) -> bool {
+        let verdict = verdict(&self.case);
+        let document = self.is_met(&verdict.document);
+        let original = match &verdict.original {
+            Outcome::Answered { answer, .. } => Some(self.is_met(answer)),
+            Outcome::Wide(_) => Some(false),
+            Outcome::Absent(_) => None,
+        };
+        // A swap past the rate limits is refused by document 01 alone.
+        let ruled_alone = verdict.class == "rates past the limits";
+        let original_says = match original {
+            None => "has no such call",
+            Some(true) => "ok",
+            Some(false) if ruled_alone => "has no such limit",
+            Some(false) => "FAIL",
+        };
+        let document_says = if document { "ok" } else { "FAIL" };
+        println!("{:66} original {original_says}, document 01 {document_says}", self.says);
+        document && (original != Some(false) || ruled_alone)
+    }
+
+    fn is_met(&self, answer: &Answer) -> bool {
+        let wanted = |(name, value): &(&str, u64)| self.column(answer, name) == Some(*value);
+        answer.number == self.number && self.columns.iter().all(wanted)
+    }
+
+    fn column(&self, answer: &Answer, name: &str) -> Option<u64> {
+        let call = || RECEIPT_COLUMNS.iter().chain(&POOL_COLUMNS).chain(&ENTRY_COLUMNS);
+        let form = self.case.form();
+        let at = if form.is_call() {
+            call().position(|column| *column == name)
+        } else {
+            form.values.iter().position(|column| *column == name)
+        };
+        answer.values.get(at?).copied()
+    }
+}
+
+/// The day sheet's three rows: rates and opening by document 01, the swap by the original.
+fn worked_example() -> bool {
+    let pool = opened(0, 0, RATES);
+    let swap = Call::from_words(2, &[0, 10_000, 1, 100]).expect("a swap takes four words");
+    let after = runner::run(&pool, &swap).expect("the Rust has this swap");
+    let [amount_in, amount_out] = [after.receipt.paid_in[0], after.receipt.paid_out[1]];
+    let rows = [
+        row(0, [0, 0], &model::empty()),
+        row(0, [0, 0], &pool),
+        row(after.number, [amount_in, amount_out], &after.state),
+    ];
+    let right = rows.iter().zip(WORKED_OUTPUT).all(|(row, output)| row == output);
+    rows.iter().for_each(|row| println!("{row}"));
+    println!("worked example: {}", if right { "ok" } else { "FAIL" });
+    right
+}
+
+fn row(number: u64, [first, second]: [u64; 2], state: &State) -> String {
+    let net = |t: usize| {
+        let pool = &state.pool;
+        pool.vaults[t] - pool.protocol[t] - pool.fund[t] - pool.creator[t]
+    };
+    format!("{number:2}{first:20}{second:20}{:20}{:20}{:20}", net(0), net(1), state.pool.supply)
+}

@@ -1,0 +1,80 @@
+//! Functions alone and the ring alone.
+
+use crate::random::Random;
+use record::{Case, FORMS};
+
+pub fn case(random: &mut Random) -> Case {
+    let alone = FORMS.iter().filter(|form| !form.is_call());
+    let kinds: Vec<u64> = alone.map(|form| form.kind).chain([30, 30, 30]).collect();
+    let kind = random.pick(&kinds);
+    let columns = match kind {
+        10..=17 => fee(random, kind),
+        20 | 21 => curve(random),
+        22 => vec![random.any(), random.any(), random.any(), random.any(), random.below(2)],
+        23 => vec![random.any(), random.any(), random.pick(&[0, 0, 1, u64::MAX]), random.any()],
+        30 => ring(random),
+        31 | 32 => vaults(random),
+        33 => booking(random),
+        34 => vec![random.below(5), random.below(3)],
+        _ => vec![random.any(), random.any()],
+    };
+    Case { kind, columns }
+}
+
+fn rate(random: &mut Random) -> u64 {
+    match random.below(4) {
+        0 => random.pick(&[0, 1, 999_999, 1_000_000, 1_000_001, u64::MAX]),
+        1 => random.any(),
+        _ => random.up_to(1_000_000),
+    }
+}
+
+fn fee(random: &mut Random, kind: u64) -> Vec<u64> {
+    let mut columns = vec![random.any(), rate(random)];
+    if kind == 15 {
+        columns.push(rate(random));
+    }
+    columns
+}
+
+fn curve(random: &mut Random) -> Vec<u64> {
+    let (amount, net_in) = (random.any(), random.any());
+    let net_out = if random.chance(3) { amount.saturating_add(random.below(4)) } else { random.any() };
+    vec![amount, net_in, net_out]
+}
+
+fn ring(random: &mut Random) -> Vec<u64> {
+    let used = u64::from(!random.chance(8));
+    let index =
+        if random.chance(12) { random.pick(&[100, 65_535, 65_536, u64::MAX]) } else { random.below(100) };
+    let mark = if random.chance(4) { 0 } else { random.any() };
+    let entry_clock = if random.chance(3) { random.any() } else { mark.saturating_sub(random.below(20)) };
+    let clock = if random.chance(3) { random.any() } else { entry_clock.saturating_add(random.below(40)) };
+    let mut columns = vec![used, index, mark, entry_clock];
+    columns.extend((0..4).map(|_| random.any()));
+    if index >= 100 {
+        columns[3..].fill(0);
+    }
+    columns.push(clock);
+    for _ in 0..2 {
+        let high = if random.chance(2) { 0 } else { random.sized() };
+        columns.extend([high, random.any()]);
+    }
+    columns
+}
+
+fn vaults(random: &mut Random) -> Vec<u64> {
+    let mut columns = vec![random.any(), random.any()];
+    let shift = random.below(64);
+    columns.extend((0..6).map(|_| if shift < 4 { random.any() } else { random.sized() >> shift }));
+    columns
+}
+
+fn booking(random: &mut Random) -> Vec<u64> {
+    let mut columns: Vec<u64> = (0..6).map(|_| random.any()).collect();
+    let model = if random.chance(10) { random.pick(&[3, 255, 256]) } else { random.below(3) };
+    let direction = if random.chance(20) { 2 } else { random.below(2) };
+    columns.extend([model, direction]);
+    columns.extend((0..3).map(|_| random.any()));
+    columns
+}

@@ -1,0 +1,117 @@
+//! Arguments for a call on a state: at and beside what the pool holds, and limits that just
+//! pass or just fail.
+
+use crate::random::Random;
+use record::{Call, Case, State};
+
+pub fn call(random: &mut Random, state: &State, kind: u64) -> Case {
+    let arguments = match kind {
+        2 | 3 => swap(random, state, kind),
+        4 | 5 => liquidity(random, state, kind),
+        6 => vec![share(random, state)],
+        _ => vec![status_number(random, 3), status_number(random, 2)],
+    };
+    Case::of_call(state, kind, &arguments)
+}
+
+/// Mostly 0 up to the bound, sometimes past it.
+fn status_number(random: &mut Random, bound: u64) -> u64 {
+    if random.chance(6) {
+        random.any()
+    } else {
+        random.below(bound)
+    }
+}
+
+fn share(random: &mut Random, state: &State) -> u64 {
+    match random.below(4) {
+        0 => state.pool.rates.share,
+        1 => random.pick(&[0, 1, 999_999, 1_000_000, 1_000_001, u64::MAX]),
+        _ => random.up_to(1_000_000),
+    }
+}
+
+fn swap(random: &mut Random, state: &State, kind: u64) -> Vec<u64> {
+    let direction = if random.chance(40) { random.pick(&[2, 3, u64::MAX]) } else { random.below(2) };
+    let amount = swap_amount(random, state, kind, direction);
+    let clock = clock(random, state);
+    let loose = if kind == 2 { 0 } else { u64::MAX };
+    let arguments = [direction, amount, loose, clock];
+    let limit = match random.below(8) {
+        0 => random.any(),
+        1 | 2 => beside_price(random, state, kind, arguments),
+        _ => loose,
+    };
+    vec![direction, amount, limit, clock]
+}
+
+/// The limit at which the swap just passes, or one beside it.
+fn beside_price(random: &mut Random, state: &State, kind: u64, arguments: [u64; 4]) -> u64 {
+    let call = Call::from_words(kind, &arguments).expect("a swap takes four words");
+    let receipt = model::run(state, &call).receipt;
+    let [a0, a1] = if kind == 2 { receipt.paid_out } else { receipt.paid_in };
+    let beside = random.below(3);
+    a0.max(a1).saturating_add(beside).saturating_sub(1)
+}
+
+fn swap_amount(random: &mut Random, state: &State, kind: u64, direction: u64) -> u64 {
+    let vaults = state.pool.vaults;
+    let (vault_in, vault_out) = if direction == 0 { (vaults[0], vaults[1]) } else { (vaults[1], vaults[0]) };
+    match random.below(8) {
+        0 => random.below(20),
+        1 => random.any(),
+        2 => random.near(u64::MAX - vault_in),
+        3 => random.near(vault_out),
+        4 => random.near(vault_in),
+        5 if kind == 3 => vault_out - random.up_to(vault_out.min(1000)),
+        _ => {
+            let held = if kind == 3 { vault_out } else { vault_in };
+            random.up_to(held) >> random.below(30)
+        }
+    }
+}
+
+fn clock(random: &mut Random, state: &State) -> u64 {
+    let mark = state.pool.head.mark;
+    let clock = match random.below(8) {
+        0 => random.any(),
+        1 => random.near(state.pool.open_time),
+        2 => random.near(u64::MAX),
+        3 => random.near(mark.saturating_add(15)),
+        4 => mark.saturating_add(random.sized()),
+        _ => mark.saturating_add(random.below(40)),
+    };
+    if random.chance(8) {
+        clock
+    } else {
+        clock.max(state.pool.open_time)
+    }
+}
+
+fn liquidity(random: &mut Random, state: &State, kind: u64) -> Vec<u64> {
+    let lp = lp_amount(random, state.pool.supply);
+    let owned = if random.chance(10) { random.near(lp) } else { u64::MAX };
+    let loose = if kind == 4 { u64::MAX } else { 0 };
+    let with_limits = |first, second| match kind {
+        4 => vec![lp, first, second],
+        _ => vec![lp, owned, first, second],
+    };
+    if !random.chance(3) {
+        return with_limits(loose, loose);
+    }
+    let call = Call::from_words(kind, &with_limits(loose, loose)).expect("a change of LP takes such words");
+    let receipt = model::run(state, &call).receipt;
+    let [a0, a1] = if kind == 4 { receipt.paid_in } else { receipt.paid_out };
+    let (first, second) = (random.near(a0), random.near(a1));
+    with_limits(if random.chance(2) { first } else { loose }, if random.chance(2) { second } else { loose })
+}
+
+fn lp_amount(random: &mut Random, supply: u64) -> u64 {
+    match random.below(6) {
+        0 => random.below(20),
+        1 => random.any(),
+        2 => random.near(supply),
+        3 => random.near(u64::MAX - supply),
+        _ => random.up_to(supply) >> random.below(20),
+    }
+}

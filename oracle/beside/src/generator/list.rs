@@ -1,0 +1,63 @@
+//! Lists of calls from openings, in any order, that fill and empty the pool. The next call
+//! gets the state that document 01 gives after the one before.
+
+use super::{arguments, hand};
+use crate::random::Random;
+use record::{Case, State};
+
+pub struct List {
+    state: State,
+    calls_left: u64,
+}
+
+impl List {
+    /// A list that has ended, so that the next case is an opening.
+    pub fn ended() -> List {
+        List { state: model::empty(), calls_left: 0 }
+    }
+
+    pub fn next_case(&mut self, random: &mut Random) -> Case {
+        let case = if self.calls_left == 0 { opening(random) } else { self.call(random) };
+        let call = case.call().expect("a list holds calls only");
+        let after = model::run(&self.state, &call);
+        if self.calls_left > 0 {
+            self.calls_left -= 1;
+        } else if after.number == 0 {
+            self.calls_left = 5 + random.below(60);
+        }
+        self.state = after.state;
+        case
+    }
+
+    fn call(&self, random: &mut Random) -> Case {
+        let kind = match random.below(20) {
+            0..6 => 2,
+            6..12 => 3,
+            12..15 => 4,
+            15..18 => 5,
+            18 => 6,
+            _ => 7,
+        };
+        // A closed pool would only refuse, so most status changes open it again.
+        if kind == 7 && !random.chance(4) {
+            let bit = random.below(3);
+            return Case::of_call(&self.state, kind, &[bit, 0]);
+        }
+        arguments::call(random, &self.state, kind)
+    }
+}
+
+fn opening(random: &mut Random) -> Case {
+    let amounts = match random.below(4) {
+        0 => [random.edge(), random.edge()],
+        1 => [1 + random.below(300), 1 + random.below(300)],
+        _ => [random.sized(), random.sized()],
+    };
+    let model = if random.chance(20) { random.any() } else { random.below(3) };
+    let enabled = if random.chance(20) { random.any() } else { random.below(2) };
+    let open_time = if random.chance(4) { random.any() } else { 0 };
+    let rates = hand::rates(random);
+    let rates = [rates.trade, rates.protocol, rates.fund, rates.creator, rates.share];
+    let columns = [&amounts[..], &[model, enabled, open_time], &rates].concat();
+    Case { kind: 1, columns }
+}

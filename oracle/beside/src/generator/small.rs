@@ -1,0 +1,153 @@
+//! Every case over small numbers.
+
+use record::Case;
+
+/// The values that each column of a kind takes; every choice of one in each is a case.
+struct Grid {
+    kind: u64,
+    columns: Vec<Vec<u64>>,
+}
+
+const YES_NO: [u64; 2] = [0, 1];
+const WORKED: [u64; 5] = [2500, 120_000, 40_000, 1000, 0];
+const RATES: [[u64; 5]; 7] = [
+    [0, 0, 0, 0, 0],
+    WORKED,
+    [0, 0, 0, 500_000, 0],
+    [500_000, 1_000_000, 0, 0, 0],
+    [250_000, 500_000, 500_000, 250_000, 0],
+    [999_999, 0, 1_000_000, 0, 0],
+    [500_000, 0, 0, 500_000, 0],
+];
+
+pub fn cases() -> impl Iterator<Item = Case> {
+    grids().into_iter().flat_map(Grid::cases)
+}
+
+/// How many cases there are.
+pub fn count() -> u64 {
+    grids().iter().map(Grid::count).sum()
+}
+
+fn grids() -> Vec<Grid> {
+    let mut grids = alone();
+    for rates in RATES {
+        grids.extend([2, 3].map(|kind| swaps(kind, rates)));
+    }
+    grids.extend([deposits(), withdrawals(), settlements(), statuses(), openings(), ring()]);
+    grids.push(ring_past_its_end());
+    grids
+}
+
+fn to(greatest: u64) -> Vec<u64> {
+    (0..=greatest).collect()
+}
+
+/// A pool without fees booked, of which the caller widens single columns.
+fn pool(rates: [u64; 5]) -> Vec<Vec<u64>> {
+    let mut columns = vec![vec![0]; 13];
+    columns.extend(rates.map(|rate| vec![rate]));
+    columns.extend([vec![1], vec![99], vec![5]]);
+    columns
+}
+
+fn swaps(kind: u64, rates: [u64; 5]) -> Grid {
+    let mut columns = pool(rates);
+    (columns[0], columns[1]) = (to(5), to(5));
+    (columns[2], columns[7]) = (to(1), to(1));
+    (columns[11], columns[12]) = (to(3), YES_NO.to_vec());
+    columns.extend([[5], [0], [7], [0], [9]].map(Vec::from));
+    let limits = if kind == 2 { to(2) } else { vec![1, 4, u64::MAX] };
+    columns.extend([to(2), to(8), limits, vec![20]]);
+    Grid { kind, columns }
+}
+
+fn deposits() -> Grid {
+    let mut columns = pool(WORKED);
+    (columns[0], columns[1], columns[8]) = (to(6), to(6), to(6));
+    (columns[4], columns[9]) = (to(1), to(1));
+    columns.extend([to(8), vec![0, 1, 2, 9], vec![0, 1, 2, 9]]);
+    Grid { kind: 4, columns }
+}
+
+fn withdrawals() -> Grid {
+    let mut columns = pool(WORKED);
+    (columns[0], columns[1], columns[8]) = (to(6), to(6), to(6));
+    (columns[5], columns[9]) = (to(1), vec![0, 2]);
+    columns.extend([to(8), vec![0, 3, 9], to(2), to(2)]);
+    Grid { kind: 5, columns }
+}
+
+fn settlements() -> Grid {
+    let mut columns = pool(WORKED);
+    (columns[0], columns[1], columns[2]) = (to(6), to(6), to(2));
+    (columns[6], columns[7]) = (to(6), to(6));
+    columns.push(vec![0, 1, 333_333, 500_000, 999_999, 1_000_000, 1_000_001]);
+    Grid { kind: 6, columns }
+}
+
+fn statuses() -> Grid {
+    let mut columns = pool(WORKED);
+    columns[9] = to(16);
+    columns.extend([to(4), to(3)]);
+    Grid { kind: 7, columns }
+}
+
+fn openings() -> Grid {
+    let mut columns = vec![(0..=110).step_by(5).chain([101, 102]).collect(); 2];
+    columns.extend([to(3), to(2), vec![0]]);
+    columns.extend([vec![0, 999_999], vec![0, 1_000_000], to(1), to(1), vec![0, 1_000_000, 1_000_001]]);
+    Grid { kind: 1, columns }
+}
+
+fn alone() -> Vec<Grid> {
+    let rates = vec![0, 1, 2, 333_333, 500_000, 999_998, 999_999, 1_000_000, 1_000_001, 2_000_000];
+    let mut grids: Vec<Grid> =
+        [10, 11, 12, 13, 14, 16, 17].map(|kind| Grid { kind, columns: vec![to(40), rates.clone()] }).into();
+    grids.push(Grid { kind: 15, columns: vec![to(20), to(6), to(6)] });
+    grids.extend([20, 21].map(|kind| Grid { kind, columns: vec![to(15), to(15), to(15)] }));
+    grids.push(Grid { kind: 22, columns: vec![to(8), to(8), to(8), to(8), YES_NO.to_vec()] });
+    grids.push(Grid { kind: 23, columns: vec![to(1), to(20), to(1), to(20)] });
+    grids.push(Grid { kind: 31, columns: vec![to(3); 8] });
+    grids.push(Grid { kind: 32, columns: vec![to(3); 8] });
+    grids.push(Grid { kind: 34, columns: vec![to(4), to(2)] });
+    grids.push(Grid { kind: 35, columns: vec![to(2), to(2)] });
+    grids
+}
+
+fn ring() -> Grid {
+    let price = [vec![0, u64::MAX / 16], vec![0, 3]];
+    let mut columns = vec![YES_NO.to_vec(), vec![0, 98, 99], to(4), to(4)];
+    columns.extend([vec![0, u64::MAX], vec![1], vec![0], vec![u64::MAX]]);
+    columns.push(to(22));
+    columns.extend(price.clone());
+    columns.extend(price);
+    Grid { kind: 30, columns }
+}
+
+fn ring_past_its_end() -> Grid {
+    let mut columns = vec![YES_NO.to_vec(), vec![100, 101, 65_535]];
+    columns.extend(vec![vec![0]; 6]);
+    columns.extend([to(2), vec![0], to(1), vec![0], to(1)]);
+    Grid { kind: 30, columns }
+}
+
+impl Grid {
+    fn count(&self) -> u64 {
+        self.columns.iter().map(|choices| choices.len() as u64).product()
+    }
+
+    /// The case whose choices are the digits of this number, the first column's the lowest.
+    fn case(&self, mut number: u64) -> Case {
+        let mut choose = |choices: &Vec<u64>| {
+            let chosen = choices[(number % choices.len() as u64) as usize];
+            number /= choices.len() as u64;
+            chosen
+        };
+        Case { kind: self.kind, columns: self.columns.iter().map(&mut choose).collect() }
+    }
+
+    fn cases(self) -> impl Iterator<Item = Case> {
+        (0..self.count()).map(move |number| self.case(number))
+    }
+}

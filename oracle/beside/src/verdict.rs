@@ -1,0 +1,77 @@
+//! The original beside document 01 on one case: they agree, or they differ in a class that
+//! docs/DIFFERENCES.md names, or they differ in none of those, which must never be seen.
+
+use crate::reasons;
+use model::answer as document;
+use record::{Answer, Case};
+use runner::{answer as original, Cause, Change, Outcome};
+
+#[derive(Clone, Copy, Debug, PartialEq, Eq, PartialOrd, Ord)]
+pub enum Side {
+    /// The original answers as document 01 does.
+    Both,
+    /// Document 01 alone rules.
+    DocumentAlone,
+    /// A difference that no class explains.
+    Unlisted,
+}
+
+pub struct Verdict {
+    pub side: Side,
+    /// What the case shows, as docs/DIFFERENCES.md names it; empty where nothing stands out.
+    pub class: String,
+    pub document: Answer,
+    pub original: Outcome,
+}
+
+pub fn verdict(case: &Case) -> Verdict {
+    let (document, original) = (document(case), original(case));
+    let (side, class) = match &original {
+        Outcome::Absent(reason) => (Side::DocumentAlone, format!("not in the Rust: {reason}")),
+        Outcome::Wide(_) => wide(case, &document),
+        Outcome::Answered { answer, booked, cause } if *answer == document => {
+            same(case, &document, booked, cause)
+        }
+        Outcome::Answered { answer, .. } => differs(case, answer, &document),
+    };
+    Verdict { side, class, document, original }
+}
+
+fn wide(case: &Case, document: &Answer) -> (Side, String) {
+    let expected = if case.kind < 20 { 8 } else { 11 };
+    if document.number == expected {
+        (Side::DocumentAlone, format!("{} alone: result past u64", case.form().name))
+    } else {
+        (Side::Unlisted, "result past u64".into())
+    }
+}
+
+/// The same answer, and how the original came to it.
+fn same(case: &Case, document: &Answer, booked: &[Change], cause: &Cause) -> (Side, String) {
+    let name = case.form().name;
+    let number = document.number;
+    let left = if booked.is_empty() { "" } else { ", after booking" };
+    match cause {
+        Cause::None => (Side::Both, String::new()),
+        Cause::Panic(place) => (Side::Both, format!("{name} {number}: panic at {place}{left}")),
+        Cause::StandIn => (Side::DocumentAlone, format!("{name} {number}: vault past u64{left}")),
+        Cause::Check if booked.is_empty() => (Side::Both, String::new()),
+        Cause::Check => (Side::Both, format!("{name} {number}: check{left}")),
+    }
+}
+
+/// A class is only given where the case itself shows its reason, reckoned here once more.
+fn differs(case: &Case, original: &Answer, document: &Answer) -> (Side, String) {
+    let name = case.form().name;
+    let class = match (case.kind, original.number, document.number) {
+        (2 | 3, _, 3) if reasons::rates_past_limits(case) => "rates past the limits".into(),
+        (3, 4, 11) if reasons::input_past_u64(case) => format!("{name}: input far above u64"),
+        (15, 11, 8) if reasons::rate_sum_past_u64(case) => format!("{name} alone: rate sum past u64"),
+        (6, 0, 7) if reasons::vault_short(original) => format!("{name}: a vault can't pay the creators"),
+        (6, 0, 0) if reasons::only_paid_out(original, document) => {
+            format!("{name}: the vaults pay the creators")
+        }
+        (kind, was, is) => return (Side::Unlisted, format!("kind {kind}: the Rust {was}, document 01 {is}")),
+    };
+    (Side::DocumentAlone, class)
+}

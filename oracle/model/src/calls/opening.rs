@@ -1,0 +1,33 @@
+//! Opening.
+
+use super::{rate_limits, Accepted};
+use crate::fees::MILLION;
+use crate::refusal::{refuse_if, EMPTY_SUPPLY, INIT_LP_AMOUNT_TOO_LESS, INVALID_FEE_MODEL, INVALID_INPUT};
+use crate::whole::{whole, whole_root};
+use record::{Opening, Pool, Receipt};
+
+const LEAST_SUPPLY: u64 = 101;
+
+pub fn open(opening: &Opening) -> Accepted {
+    let [amount_0, amount_1] = opening.amounts;
+    refuse_if(amount_0 == 0 || amount_1 == 0, EMPTY_SUPPLY)?;
+    refuse_if(opening.fee_model > 2, INVALID_FEE_MODEL)?;
+    refuse_if(opening.enabled > 1, INVALID_INPUT)?;
+    rate_limits(&opening.rates)?;
+    refuse_if(opening.rates.share > MILLION, INVALID_INPUT)?;
+    let root = whole_root(whole(amount_0) * whole(amount_1));
+    let supply = root.as_u64().expect("the root of a product of two u64 is a u64");
+    refuse_if(supply < LEAST_SUPPLY, INIT_LP_AMOUNT_TOO_LESS)?;
+    let mut state = crate::empty();
+    state.pool = Pool {
+        vaults: opening.amounts,
+        supply,
+        open_time: opening.open_time,
+        fee_model: opening.fee_model,
+        enabled: opening.enabled == 1,
+        rates: opening.rates,
+        ..Pool::default()
+    };
+    let receipt = Receipt { kind: 1, paid_in: opening.amounts, lp: supply, ..Receipt::default() };
+    Ok((state, receipt))
+}

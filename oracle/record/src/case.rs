@@ -1,0 +1,124 @@
+//! One call, or one function alone, with all that it takes: a line of decimal numbers.
+
+use crate::call::{Call, Receipt};
+use crate::form::{form, Form, On};
+use crate::pool::{Pool, State};
+use crate::ring::{entry_at, filled_ring, RING_ENTRIES};
+
+/// The columns are what the form names: pool, entry, arguments.
+#[derive(Clone, Debug, PartialEq, Eq)]
+pub struct Case {
+    pub kind: u64,
+    pub columns: Vec<u64>,
+}
+
+/// Number 0 is accepted. The values of a call are its receipt, the pool and, for a swap,
+/// the entry at the ring's index.
+#[derive(Clone, Debug, PartialEq, Eq)]
+pub struct Answer {
+    pub number: u64,
+    pub values: Vec<u64>,
+}
+
+impl Case {
+    /// None where the line is no case.
+    pub fn read(line: &str) -> Option<Case> {
+        let words: Option<Vec<u64>> = line.split(' ').map(|word| word.parse().ok()).collect();
+        let (kind, columns) = words?.split_first().map(|(kind, columns)| (*kind, columns.to_vec()))?;
+        let case = Case { kind, columns };
+        case.is_whole().then_some(case)
+    }
+
+    pub fn line(&self) -> String {
+        joined(std::iter::once(&self.kind).chain(&self.columns))
+    }
+
+    pub fn form(&self) -> &'static Form {
+        form(self.kind).expect("a case is made of a known kind")
+    }
+
+    pub fn arguments(&self) -> &[u64] {
+        &self.columns[self.form().columns_before()..]
+    }
+
+    /// The state that a call acts on; a case without a pool acts on zeros.
+    pub fn state(&self) -> State {
+        let (pool, index_entry) = match self.form().on {
+            On::Nothing => (Some(Pool::default()), [0; 5]),
+            On::Pool => (Pool::from_words(&self.columns[..21]), [0; 5]),
+            On::PoolAndEntry => {
+                let entry = self.columns[21..26].try_into().expect("an entry has five words");
+                (Pool::from_words(&self.columns[..21]), entry)
+            }
+        };
+        let pool = pool.expect("a case holds a whole pool");
+        State { pool, ring: filled_ring(pool.head.index, index_entry) }
+    }
+
+    pub fn call(&self) -> Option<Call> {
+        Call::from_words(self.kind, self.arguments())
+    }
+
+    /// The case of a call on this state, of which it takes what its form names.
+    pub fn of_call(state: &State, kind: u64, arguments: &[u64]) -> Case {
+        let form = form(kind).expect("a call is of a known kind");
+        let mut columns = Vec::with_capacity(form.columns_before() + arguments.len());
+        if form.on != On::Nothing {
+            columns.extend(state.pool.words());
+        }
+        if form.on == On::PoolAndEntry {
+            columns.extend(entry_at(&state.ring, state.pool.head.index));
+        }
+        columns.extend(arguments);
+        Case { kind, columns }
+    }
+
+    /// Whether it has its form's columns, 0 or 1 where a yes or no is due, and no entry at
+    /// an index past the ring.
+    pub fn is_whole(&self) -> bool {
+        let Some(form) = form(self.kind) else {
+            return false;
+        };
+        let before = form.columns_before();
+        self.columns.len() == before + form.arguments.len()
+            && (before == 0 || Pool::from_words(&self.columns[..21]).is_some())
+            && !(self.kind == 22 && self.columns[4] > 1)
+            && !(self.kind == 30 && self.columns[0] > 1)
+            && self.entry_is_in_ring()
+    }
+
+    fn entry_is_in_ring(&self) -> bool {
+        let (index, entry) = match self.kind {
+            2 | 3 => (self.columns[19], &self.columns[21..26]),
+            30 => (self.columns[1], &self.columns[3..8]),
+            _ => return true,
+        };
+        index < RING_ENTRIES as u64 || entry.iter().all(|word| *word == 0)
+    }
+}
+
+impl Answer {
+    pub fn line(&self) -> String {
+        joined(std::iter::once(&self.number).chain(&self.values))
+    }
+
+    /// A function alone that is refused gives zeros.
+    pub fn refused(number: u64, values: usize) -> Answer {
+        Answer { number, values: vec![0; values] }
+    }
+}
+
+/// A call's answer in the columns of its kind.
+pub fn call_answer(kind: u64, number: u64, receipt: &Receipt, state: &State) -> Answer {
+    let mut values = Vec::with_capacity(41);
+    values.extend(receipt.words());
+    values.extend(state.pool.words());
+    if form(kind).is_some_and(|form| form.on == On::PoolAndEntry) {
+        values.extend(entry_at(&state.ring, state.pool.head.index));
+    }
+    Answer { number, values }
+}
+
+fn joined<'a>(words: impl Iterator<Item = &'a u64>) -> String {
+    words.map(u64::to_string).collect::<Vec<_>>().join(" ")
+}

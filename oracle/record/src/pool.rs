@@ -1,0 +1,128 @@
+//! The pool's record, in the order in which every line gives it.
+
+use crate::ring::Ring;
+
+#[derive(Clone, Copy, Debug, Default, PartialEq, Eq)]
+pub struct Rates {
+    pub trade: u64,
+    pub protocol: u64,
+    pub fund: u64,
+    pub creator: u64,
+    pub share: u64,
+}
+
+/// The price ring without its entries.
+#[derive(Clone, Copy, Debug, Default, PartialEq, Eq)]
+pub struct RingHead {
+    pub used: bool,
+    pub index: u64,
+    pub mark: u64,
+}
+
+#[derive(Clone, Copy, Debug, Default, PartialEq, Eq)]
+pub struct Pool {
+    pub vaults: [u64; 2],
+    pub protocol: [u64; 2],
+    pub fund: [u64; 2],
+    pub creator: [u64; 2],
+    pub supply: u64,
+    pub status: u64,
+    pub open_time: u64,
+    pub fee_model: u64,
+    pub enabled: bool,
+    pub rates: Rates,
+    pub head: RingHead,
+}
+
+#[derive(Clone, Debug, PartialEq, Eq)]
+pub struct State {
+    pub pool: Pool,
+    pub ring: Ring,
+}
+
+pub const POOL_COLUMNS: [&str; 21] = [
+    "vault 0",
+    "vault 1",
+    "protocol 0",
+    "protocol 1",
+    "fund 0",
+    "fund 1",
+    "creator 0",
+    "creator 1",
+    "supply",
+    "status",
+    "open time",
+    "fee model",
+    "enabled",
+    "trade rate",
+    "protocol rate",
+    "fund rate",
+    "creator rate",
+    "share rate",
+    "ring used",
+    "ring index",
+    "ring mark",
+];
+
+impl Pool {
+    pub fn words(&self) -> [u64; 21] {
+        let Pool { vaults, protocol, fund, creator, rates, head, .. } = self;
+        [
+            vaults[0],
+            vaults[1],
+            protocol[0],
+            protocol[1],
+            fund[0],
+            fund[1],
+            creator[0],
+            creator[1],
+            self.supply,
+            self.status,
+            self.open_time,
+            self.fee_model,
+            self.enabled.into(),
+            rates.trade,
+            rates.protocol,
+            rates.fund,
+            rates.creator,
+            rates.share,
+            head.used.into(),
+            head.index,
+            head.mark,
+        ]
+    }
+
+    /// None where a yes or no is neither 1 nor 0, or words are missing.
+    pub fn from_words(words: &[u64]) -> Option<Pool> {
+        let [v0, v1, p0, p1, f0, f1, c0, c1, ref rest @ ..] = *words else {
+            return None;
+        };
+        let [supply, status, open_time, fee_model, enabled, ref rest @ ..] = *rest else {
+            return None;
+        };
+        let [trade, protocol, fund, creator, share, used, index, mark] = *rest else {
+            return None;
+        };
+        Some(Pool {
+            vaults: [v0, v1],
+            protocol: [p0, p1],
+            fund: [f0, f1],
+            creator: [c0, c1],
+            supply,
+            status,
+            open_time,
+            fee_model,
+            enabled: yes_or_no(enabled)?,
+            rates: Rates { trade, protocol, fund, creator, share },
+            head: RingHead { used: yes_or_no(used)?, index, mark },
+        })
+    }
+}
+
+fn yes_or_no(word: u64) -> Option<bool> {
+    match word {
+        0 => Some(false),
+        1 => Some(true),
+        _ => None,
+    }
+}

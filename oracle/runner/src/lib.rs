@@ -1,0 +1,70 @@
+//! Runs the original on any state and any arguments. A call that fails or panics is rolled
+//! back, as a chain would, and what it had changed before is kept to be shown.
+
+mod calls;
+mod failure;
+mod functions;
+mod memory;
+
+use record::{call_answer, only_newest_written, Answer, Case, Receipt, State};
+
+/// One number that a refused call had changed before it was rolled back.
+#[derive(Clone, Debug, PartialEq, Eq)]
+pub struct Change {
+    pub column: String,
+    pub before: u64,
+    pub after: u64,
+}
+
+/// A call that the original has answered.
+pub struct Run {
+    pub number: u64,
+    pub receipt: Receipt,
+    pub state: State,
+    /// What the call had changed when it was refused.
+    pub booked: Vec<Change>,
+    pub cause: Cause,
+}
+
+/// Where a number comes from.
+#[derive(Clone, Debug, PartialEq, Eq)]
+pub enum Cause {
+    /// The call was accepted.
+    None,
+    /// The original's own check.
+    Check,
+    /// The original panicked on this line.
+    Panic(String),
+    /// The stand-in for the token program.
+    StandIn,
+}
+
+pub use calls::run;
+
+/// What the original says to a case.
+pub enum Outcome {
+    Answered {
+        answer: Answer,
+        booked: Vec<Change>,
+        cause: Cause,
+    },
+    /// A function alone gave a result of more than 64 bits.
+    Wide(Vec<u128>),
+    /// The Rust has no such call, argument or width.
+    Absent(&'static str),
+}
+
+pub fn answer(case: &Case) -> Outcome {
+    let Some(call) = case.call() else {
+        return functions::answer(case);
+    };
+    let before = case.state();
+    match run(&before, &call) {
+        Err(reason) => Outcome::Absent(reason),
+        Ok(run) => {
+            assert!(only_newest_written(&before.ring, &run.state.ring, run.state.pool.head.index));
+            let answer = call_answer(case.kind, run.number, &run.receipt, &run.state);
+            Outcome::Answered { answer, booked: run.booked, cause: run.cause }
+        }
+    }
+}
