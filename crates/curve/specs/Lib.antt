@@ -1,4 +1,5 @@
 pub mod Answer
 pub mod Fees
 pub mod ConstantProduct
+pub mod Calculator
 pub mod Stages

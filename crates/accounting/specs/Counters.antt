@@ -1,0 +1,33 @@
+-- Document 01: 'vault t is the whole balance of token t; net t is vault t less its protocol, fund and creator counters'.
+-- A token is a Bool here: true is token 0, false is token 1.
+use Prim.Native.Nat.{ℕ, _+_, _-_}
+use mathlib.Core.Bool.{Bool, true, false}
+use mathlib.Core.List.{[], _∷_}
+use lib.Dec.{ltb}
+use Rattle.refusal.specs.Refusal.{MathOverflow, InsufficientVault}
+use Rattle.refusal.specs.Tests.{Tests, past}
+use Rattle.accounting.specs.declared.FeeCounters.{FeeCounters}
+
+-- of two things, token 0's and token 1's, that of a token
+abbrev pub ofToken : {A : Type 0} → Bool → A → A → A
+ofToken true a b = a
+ofToken false a b = b
+
+abbrev pub zeroCounters : FeeCounters
+zeroCounters = record { protocol0 = 0; protocol1 = 0; fund0 = 0; fund1 = 0; creator0 = 0; creator1 = 0 }
+
+-- a token's counters together
+abbrev pub counters0 : FeeCounters → ℕ
+counters0 f = f .protocol0 + f .fund0 + f .creator0
+
+abbrev pub counters1 : FeeCounters → ℕ
+counters1 f = f .protocol1 + f .fund1 + f .creator1
+
+-- counters' sums 8, vaults 7
+unfoldable pub counterTests : ℕ → ℕ → FeeCounters → Tests
+counterTests vault0 vault1 f =
+    (past (counters0 f), MathOverflow)
+    ∷ (past (counters1 f), MathOverflow)
+    ∷ (ltb vault0 (counters0 f), InsufficientVault)
+    ∷ (ltb vault1 (counters1 f), InsufficientVault)
+    ∷ []

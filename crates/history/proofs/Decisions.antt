@@ -1,0 +1,177 @@
+-- Every call, and the opening, as its tests and what it gives where all of them are passed.
+-- Assumes nothing.
+use Prim.Native.Nat.{ℕ, _+_, _*_, _-_, min}
+use mathlib.Core.Path.{_≡_, refl}
+use mathlib.Core.Bool.{Bool, true, false, cond}
+use mathlib.Core.List.{[], _∷_}
+use lib.Dec.{eqb}
+use Rattle.math.specs.Root.{root}
+use Rattle.refusal.specs.Tests.{Tests, _then_, outcome}
+use Rattle.refusal.proofs.Stops.{numbered}
+use Rattle.curve.specs.declared.calculator.Rates.{Rates}
+use Rattle.curve.specs.declared.constant_product.RoundDirection.the-variants.{Floor, Ceiling}
+use Rattle.curve.specs.Fees.{feeDown}
+use Rattle.curve.specs.ConstantProduct.{lpAmount}
+use Rattle.curve.specs.declared.calculator.SwapResult.{SwapResult}
+use Rattle.curve.specs.Calculator.{rateLimits, onInput, swapBaseInput as inputWithFees, swapBaseOutput as outputWithFees}
+use Rattle.accounting.specs.Counters.{counterTests}
+use Rattle.accounting.specs.Booking.{bookingTests}
+use Rattle.oracle.specs.Ring.{Entries, ringTests}
+use Rattle.pool.specs.declared.state.Pool.{Pool}
+use Rattle.pool.specs.declared.state.After.{After}
+use Rattle.pool.specs.State.{net0, net1, creatorRate, refused, decided, withBooks, amounts, Done}
+use Rattle.pool.specs.Swap.{netIn, netOut, closedTests, netTests, bookTests, swapReceipt, swapped}
+use Rattle.pool.specs.SwapBaseInput.{inputTests, inputAt, swapBaseInput}
+use Rattle.pool.specs.SwapBaseOutput.{outputTests, outputAt, swapBaseOutput}
+use Rattle.pool.specs.Liquidity.{amountTests, depositTests, depositAt, deposit, withdrawTests, withdrawAt, withdraw}
+use Rattle.pool.specs.Settlement.{settlementTests, settledCounters, settlementReceipt, settlementAt, settlement}
+use Rattle.pool.specs.Status.{statusTests, flagged, withStatus, setStatus}
+use Rattle.pool.specs.Opening.{rateTests, zeroEntries, openPool, zeroPool, openingTests, opening}
+use Rattle.history.specs.declared.call.Call.{Call}
+use Rattle.history.specs.declared.call.Call.the-variants.{SwapBaseInput, SwapBaseOutput, Deposit, Withdraw, Settle, SetStatus}
+use Rattle.history.specs.Run.{State, besides, next}
+
+-- ---- what the calls without a ring give where all tests are passed
+abbrev pub deposited : ℕ → ℕ → Pool → ℕ → After
+deposited amount0 amount1 p lp = record {
+  pool = withBooks p (p .vault0 + amount0) (p .vault1 + amount1) (p .fees) (p .supply + lp) (p .ring);
+  receipt = amounts 4 amount0 amount1 0 0 lp;
+}
+
+abbrev pub withdrawn : ℕ → ℕ → Pool → ℕ → After
+withdrawn amount0 amount1 p lp = record {
+  pool = withBooks p (p .vault0 - amount0) (p .vault1 - amount1) (p .fees) (p .supply - lp) (p .ring);
+  receipt = amounts 5 0 0 amount0 amount1 lp;
+}
+
+abbrev pub settled : ℕ → ℕ → Pool → After
+settled shared0 shared1 p = record {
+  pool =
+      withBooks p (p .vault0 - (p .fees .creator0 - shared0)) (p .vault1 - (p .fees .creator1 - shared1))
+      (settledCounters shared0 shared1 (p .fees)) (p .supply) (p .ring);
+  receipt = settlementReceipt (p .fees .creator0 - shared0) (p .fees .creator1 - shared1) shared0 shared1;
+}
+
+abbrev pub withFlag : ℕ → ℕ → Pool → After
+withFlag bit flag p = record { pool = withStatus p (flagged bit flag (p .status)); receipt = amounts 7 0 0 0 0 0 }
+
+-- ---- the tests of a call at a point, and what it gives past all of them
+pub record Decision : Type 0 where
+  pub tests : Tests
+  pub accepted : Done
+
+abbrev pub feeOnInput : State → ℕ → Bool
+feeOnInput s direction = onInput (s .pool .«fee_model») (eqb direction 0)
+
+-- a swap of some kind: its tests, and what it moves and charges
+abbrev pub swapDecision :
+    ℕ → (Bool → Bool → SwapResult → Pool → Entries → ℕ → ℕ → ℕ → ℕ → Tests) → (Bool → Rates → ℕ → ℕ → ℕ → ℕ → SwapResult)
+    → State → ℕ → ℕ → ℕ → ℕ → Decision
+swapDecision kind testsWith withFees s direction amount limit clock =
+    let p = s .pool in
+    let zeroIn = eqb direction 0 in
+    let swap = withFees (feeOnInput s direction) (p .rates) (creatorRate p) (netIn zeroIn p) (netOut zeroIn p) amount in
+    record {
+      tests = testsWith zeroIn (feeOnInput s direction) swap p (s .entries) direction amount limit clock;
+      accepted = swapped kind zeroIn (feeOnInput s direction) swap p (s .entries) clock;
+    }
+
+unfoldable pub decision : State → Call → Decision
+decision s (SwapBaseInput direction amount minimum clock) = swapDecision 2 inputTests inputWithFees s direction amount minimum clock
+decision s (SwapBaseOutput direction amount maximum clock) = swapDecision 3 outputTests outputWithFees s direction amount maximum clock
+decision s (Deposit lp maximum0 maximum1) =
+    let p = s .pool in
+    let amount0 = lpAmount Ceiling (lp .0) (p .supply) (net0 p) in
+    let amount1 = lpAmount Ceiling (lp .0) (p .supply) (net1 p) in
+    record {
+      tests = depositTests amount0 amount1 p (lp .0) (maximum0 .0) (maximum1 .0);
+      accepted = besides (s .entries) (deposited amount0 amount1 p (lp .0));
+    }
+decision s (Withdraw lp owned minimum0 minimum1) =
+    let p = s .pool in
+    let amount0 = lpAmount Floor (lp .0) (p .supply) (net0 p) in
+    let amount1 = lpAmount Floor (lp .0) (p .supply) (net1 p) in
+    record {
+      tests = withdrawTests amount0 amount1 p (lp .0) (owned .0) (minimum0 .0) (minimum1 .0);
+      accepted = besides (s .entries) (withdrawn (min (net0 p) amount0) (min (net1 p) amount1) p (lp .0));
+    }
+decision s (Settle share) =
+    let p = s .pool in
+    let shared0 = feeDown (p .fees .creator0) share in
+    let shared1 = feeDown (p .fees .creator1) share in
+    record {
+      tests = settlementTests shared0 shared1 p share;
+      accepted = besides (s .entries) (settled shared0 shared1 p);
+    }
+decision s (SetStatus bit flag) = record {
+  tests = statusTests bit flag;
+  accepted = besides (s .entries) (withFlag bit flag (s .pool));
+}
+
+abbrev pub testsOf : State → Call → Tests
+testsOf s c = decision s c .tests
+
+abbrev pub acceptedOf : State → Call → Done
+acceptedOf s c = decision s c .accepted
+
+-- the opening
+unfoldable pub openingDecision : ℕ → ℕ → ℕ → ℕ → ℕ → Rates → Decision
+openingDecision amount0 amount1 model enabled openTime rates = record {
+  tests = openingTests amount0 amount1 model enabled rates;
+  accepted =
+      besides zeroEntries
+      (record {
+        pool = openPool amount0 amount1 model (eqb enabled 1) openTime rates;
+        receipt = amounts 1 amount0 amount1 0 0 (root (amount0 * amount1));
+      });
+}
+
+-- ---- these are the calls and the opening
+-- the refusal at a point: pool and ring as they were, the number and zeros
+abbrev pub refusedAt : State → ℕ → Done
+refusedAt s n = besides (s .entries) (refused (s .pool) n)
+
+-- where a refused opening leaves a caller: a pool and entries of zeros
+abbrev pub zeroState : State
+zeroState = record { pool = zeroPool; entries = zeroEntries }
+
+abbrev pub numberOf : Done → ℕ
+numberOf d = d .after .receipt .number
+
+-- d comes out of a decision at a point; no test has the number 0, and the accepted result has
+pub record Decides (s : State) (k : Decision) (d : Done) : Type 0 where
+  pub by-tests : d ≡ outcome (k .tests) (refusedAt s) (k .accepted)
+  pub tests-numbered : numbered (k .tests) ≡ true
+  pub accepted-zero : numberOf (k .accepted) ≡ 0
+
+outcome-ap : {A B : Type 0} (f : A → B) (ts : Tests) (bad : ℕ → A) (good : A) → f (outcome ts bad good) ≡ outcome ts (λ n. f (bad n)) (f good)
+unfolding outcome
+outcome-ap f [] bad good = refl
+outcome-ap f (t ∷ ts) bad good = go (t .0) (outcome-ap f ts bad good)
+  where
+    go :
+        (b : Bool) → f (outcome ts bad good) ≡ outcome ts (λ n. f (bad n)) (f good)
+        → f (cond b (bad (t .1)) (outcome ts bad good)) ≡ cond b (f (bad (t .1))) (outcome ts (λ n. f (bad n)) (f good))
+    go true e = refl
+    go false e = e
+
+-- a call without a ring
+decides-besides : (s : State) (ts : Tests) (a : After) → numbered ts ≡ true → a .receipt .number ≡ 0
+    → Decides s (record { tests = ts; accepted = besides (s .entries) a }) (besides (s .entries) (decided ts (s .pool) a))
+decides-besides s ts a n z = record { by-tests = outcome-ap (besides (s .entries)) ts (refused (s .pool)) a; tests-numbered = n; accepted-zero = z }
+
+pub call-decides : (s : State) (c : Call) → Decides s (decision s c) (next s c)
+unfolding next decision _then_ counterTests amountTests bookingTests ringTests rateLimits closedTests netTests bookTests swapped swapReceipt
+    swapBaseInput inputAt inputTests swapBaseOutput outputAt outputTests deposit depositAt depositTests withdraw withdrawAt withdrawTests
+    settlement settlementAt settlementTests settlementReceipt setStatus statusTests amounts
+call-decides s (SwapBaseInput direction amount minimum clock) = record { by-tests = refl; tests-numbered = refl; accepted-zero = refl }
+call-decides s (SwapBaseOutput direction amount maximum clock) = record { by-tests = refl; tests-numbered = refl; accepted-zero = refl }
+call-decides s (Deposit lp maximum0 maximum1) = decides-besides s _ _ refl refl
+call-decides s (Withdraw lp owned minimum0 minimum1) = decides-besides s _ _ refl refl
+call-decides s (Settle share) = decides-besides s _ _ refl refl
+call-decides s (SetStatus bit flag) = decides-besides s _ _ refl refl
+
+pub opening-decides : (amount0 amount1 model enabled openTime : ℕ) (rates : Rates)
+    → Decides zeroState (openingDecision amount0 amount1 model enabled openTime rates) (opening amount0 amount1 model enabled openTime rates)
+unfolding opening openingDecision openingTests rateTests rateLimits _then_ amounts
+opening-decides amount0 amount1 model enabled openTime rates = decides-besides zeroState _ _ refl refl

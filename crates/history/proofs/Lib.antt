@@ -1,0 +1,12 @@
+pub mod Edges
+pub mod Decisions
+pub mod Refusals
+pub mod Products
+pub mod Kept
+pub mod StoredEntry
+pub mod RingKept
+pub mod PlainCalls
+pub mod FairSwaps
+pub mod Swaps
+pub mod ListTheorem
+pub mod NotVacuous

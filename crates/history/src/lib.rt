@@ -1,0 +1,3 @@
+// Lists of calls, and what holds of every one of them.
+pub mod call;
+pub mod theorem;

@@ -1,0 +1,88 @@
+-- Document 01, 'Opening' (amount 0, amount 1, model, enabled, open time, rates).
+use Prim.Native.Nat.{ℕ, _+_, _*_}
+use mathlib.Core.Bool.{Bool, false}
+use mathlib.Core.List.{[], _∷_}
+use lib.Dec.{ltb, eqb}
+use lib.ListN.{replicate}
+use Rattle.math.specs.Root.{root}
+use Rattle.refusal.specs.Refusal.{EmptySupply, InvalidFeeModel, InvalidInput, InitLpAmountTooLess}
+use Rattle.refusal.specs.Tests.{Tests, _then_}
+use Rattle.curve.specs.declared.calculator.Rates.{Rates}
+use Rattle.curve.specs.Fees.{Million}
+use Rattle.curve.specs.Calculator.{rateLimits}
+use Rattle.accounting.specs.Counters.{zeroCounters}
+use Rattle.oracle.specs.declared.Ring.{Ring}
+use Rattle.oracle.specs.Ring.{Entries}
+use Rattle.pool.specs.declared.state.Pool.{Pool}
+use Rattle.pool.specs.State.{decided, amounts, Done}
+
+-- opening's limits on trade + creator and protocol + fund, whether creator fees are enabled or not, 3
+abbrev pub limitTests : Rates → Tests
+limitTests rates = rateLimits rates (rates .creator)
+
+-- the rates of an opening: these limits, and share above 1,000,000, 3
+unfoldable pub rateTests : Rates → Tests
+rateTests rates = limitTests rates then ((ltb Million (rates .share), InvalidInput) ∷ [])
+
+-- status, counters and ring start at 0
+abbrev pub zeroRing : Ring
+zeroRing = record { used = false; index = 0; mark = 0 }
+
+unfoldable pub zeroEntries : Entries
+zeroEntries = replicate 500 0
+
+abbrev pub zeroRates : Rates
+zeroRates = record { trade = 0; protocol = 0; fund = 0; creator = 0; share = 0 }
+
+-- supply is the whole root of the product; the opener holds the whole of it
+unfoldable pub openPool : ℕ → ℕ → ℕ → Bool → ℕ → Rates → Pool
+openPool amount0 amount1 model enabled openTime rates = record {
+  vault0 = amount0;
+  vault1 = amount1;
+  fees = zeroCounters;
+  supply = root (amount0 * amount1);
+  status = 0;
+  «open_time» = openTime;
+  «fee_model» = model;
+  enabled = enabled;
+  rates = rates;
+  ring = zeroRing;
+}
+
+unfoldable pub zeroPool : Pool
+zeroPool = record {
+  vault0 = 0;
+  vault1 = 0;
+  fees = zeroCounters;
+  supply = 0;
+  status = 0;
+  «open_time» = 0;
+  «fee_model» = 0;
+  enabled = false;
+  rates = zeroRates;
+  ring = zeroRing;
+}
+
+-- an amount 0 gives 6; model 9; enabled not 0 or 1, the rates, 3; supply below 101 gives 13
+unfoldable pub openingTests : ℕ → ℕ → ℕ → ℕ → Rates → Tests
+openingTests amount0 amount1 model enabled rates =
+    ((eqb amount0 0, EmptySupply)
+    ∷ (eqb amount1 0, EmptySupply)
+    ∷ (ltb 2 model, InvalidFeeModel)
+    ∷ (ltb 1 enabled, InvalidInput)
+    ∷ [])
+    then (rateTests rates
+    then ((ltb (root (amount0 * amount1)) 101, InitLpAmountTooLess)
+    ∷ []))
+
+-- a refused opening gives its number with a pool and ring of zeros
+unfoldable pub opening : ℕ → ℕ → ℕ → ℕ → ℕ → Rates → Done
+opening amount0 amount1 model enabled openTime rates = record {
+  after =
+      decided (openingTests amount0 amount1 model enabled rates) zeroPool
+      (record {
+        pool = openPool amount0 amount1 model (eqb enabled 1) openTime rates;
+        receipt = amounts 1 amount0 amount1 0 0 (root (amount0 * amount1));
+      });
+  entries = zeroEntries;
+}

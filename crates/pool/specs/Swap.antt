@@ -1,0 +1,89 @@
+-- Document 01, what 'Swap by input' and 'Swap by output' share. zeroIn is true where token 0 goes in (direction 0).
+use Prim.Native.Nat.{ℕ, _+_, _-_}
+use mathlib.Core.Bool.{Bool, true, false, cond}
+use mathlib.Core.List.{[], _∷_}
+use lib.Dec.{ltb, eqb}
+use Rattle.refusal.specs.Refusal.{NotApproved, InvalidVault, Panic, InvalidFeeModel, MathOverflow}
+use Rattle.refusal.specs.Tests.{Tests, _then_, past, outcome}
+use Rattle.curve.specs.declared.calculator.SwapResult.{SwapResult}
+use Rattle.accounting.specs.Counters.{ofToken, counterTests}
+use Rattle.accounting.specs.Booking.{creatorToken, booked, bookingTests}
+use Rattle.oracle.specs.declared.Ring.{Ring}
+use Rattle.oracle.specs.Ring.{Entries, Updated, price, ringTests, updated}
+use Rattle.pool.specs.declared.receipt.Receipt.{Receipt}
+use Rattle.pool.specs.declared.state.Pool.{Pool}
+use Rattle.pool.specs.State.{net0, net1, bit, refused, withBooks, Done}
+
+-- the nets of the token that goes in and of the one that comes out
+abbrev pub netIn : Bool → Pool → ℕ
+netIn zeroIn p = ofToken zeroIn (net0 p) (net1 p)
+
+abbrev pub netOut : Bool → Pool → ℕ
+netOut zeroIn p = ofToken zeroIn (net1 p) (net0 p)
+
+-- ---- tests
+-- bit 2 set or clock before open time, 1
+unfoldable pub closedTests : Pool → ℕ → Tests
+closedTests p clock =
+    (bit 2 (p .status), NotApproved)
+    ∷ (ltb clock (p .«open_time»), NotApproved)
+    ∷ []
+
+-- counters' sums 8, vaults 7; a net of 0, 11; model 9
+unfoldable pub netTests : Pool → Tests
+netTests p =
+    counterTests (p .vault0) (p .vault1) (p .fees)
+    then ((eqb (net0 p) 0, Panic)
+    ∷ (eqb (net1 p) 0, Panic)
+    ∷ (ltb 2 (p .«fee_model»), InvalidFeeModel)
+    ∷ [])
+
+-- a counter past u64, 11; vault 8; ring. Both prices are taken before the swap
+unfoldable pub bookTests : Bool → Bool → SwapResult → Pool → Entries → ℕ → Tests
+bookTests zeroIn feeOnInput s p entries clock =
+    bookingTests zeroIn (creatorToken feeOnInput zeroIn) (s .protocol) (s .fund) (s .creator) (p .fees)
+    then ((past (ofToken zeroIn (p .vault0) (p .vault1) + s .input), MathOverflow)
+    ∷ ringTests (p .ring) entries clock (price (net0 p) (net1 p)) (price (net1 p) (net0 p)))
+
+-- ---- the accepted swap
+-- a vault adds what was paid in and loses what was paid out
+unfoldable pub bookedPool : Bool → Bool → SwapResult → Ring → Pool → Pool
+bookedPool zeroIn feeOnInput s ring p =
+    withBooks p
+    (ofToken zeroIn (p .vault0 + s .input) (p .vault0 - s .output))
+    (ofToken zeroIn (p .vault1 - s .output) (p .vault1 + s .input))
+    (booked zeroIn (creatorToken feeOnInput zeroIn) (s .protocol) (s .fund) (s .creator) (p .fees))
+    (p .supply)
+    ring
+
+unfoldable pub swapReceipt : ℕ → Bool → Bool → SwapResult → ℕ → Receipt
+swapReceipt kind zeroIn feeOnInput s clock = record {
+  number = 0;
+  kind = kind;
+  direction = ofToken zeroIn 0 1;
+  clock = clock;
+  in0 = ofToken zeroIn (s .input) 0;
+  in1 = ofToken zeroIn 0 (s .input);
+  out0 = ofToken zeroIn 0 (s .output);
+  out1 = ofToken zeroIn (s .output) 0;
+  lp = 0;
+  «trade_fee» = s .trade;
+  «protocol_fee» = s .protocol;
+  «fund_fee» = s .fund;
+  «creator_fee» = s .creator;
+  «creator_fee_token» = ofToken (creatorToken feeOnInput zeroIn) 0 1;
+  shared0 = 0;
+  shared1 = 0;
+}
+
+unfoldable pub swapped : ℕ → Bool → Bool → SwapResult → Pool → Entries → ℕ → Done
+swapped kind zeroIn feeOnInput s p entries clock =
+    let u = updated (p .ring) entries clock (price (net0 p) (net1 p)) (price (net1 p) (net0 p)) in
+    record {
+      after = record { pool = bookedPool zeroIn feeOnInput s (u .ring) p; receipt = swapReceipt kind zeroIn feeOnInput s clock };
+      entries = u .entries;
+    }
+
+-- a swap's tests, and what it gives where all of them are passed; a refused one leaves the ring's entries as they were
+abbrev pub decidedSwap : Tests → Pool → Entries → Done → Done
+decidedSwap tests p entries accepted = outcome tests (λ n. record { after = refused p n; entries = entries }) accepted

@@ -1,0 +1,3 @@
+// The pool: its record, its receipts, and the calls.
+pub mod receipt;
+pub mod state;
