@@ -4,8 +4,10 @@ use Prim.Native.Nat.{ℕ, _+_}
 use mathlib.Core.Bool.{Bool, true, false, not, cond}
 use mathlib.Core.List.{[], _∷_}
 use Rattle.refusal.specs.Refusal.{Panic}
-use Rattle.refusal.specs.Tests.{Tests, past}
+use Rattle.refusal.specs.Tests.{Tests, past, outcome}
 use Rattle.accounting.specs.declared.FeeCounters.{FeeCounters}
+use Rattle.accounting.specs.declared.Booking.{Booking}
+use Rattle.accounting.specs.declared.Booking.the-variants.{Booked, Refused}
 use Rattle.accounting.specs.Counters.{ofToken}
 
 -- the creator fee's token: the input's, or the output's where the fee is on output
@@ -30,10 +32,23 @@ booked inToken feeToken protocol fund creator f = record {
   creator1 = to1 feeToken (f .creator1) creator;
 }
 
--- a counter past u64, 11
+-- a counter past u64, 11: the three counters, and the fees that go to them
+unfoldable pub pastTests : ℕ → ℕ → ℕ → ℕ → ℕ → ℕ → Tests
+pastTests counterProtocol counterFund counterCreator protocol fund creator =
+    (past (counterProtocol + protocol), Panic)
+    ∷ (past (counterFund + fund), Panic)
+    ∷ (past (counterCreator + creator), Panic)
+    ∷ []
+
 unfoldable pub bookingTests : Bool → Bool → ℕ → ℕ → ℕ → FeeCounters → Tests
 bookingTests inToken feeToken protocol fund creator f =
-    (past (ofToken inToken (f .protocol0) (f .protocol1) + protocol), Panic)
-    ∷ (past (ofToken inToken (f .fund0) (f .fund1) + fund), Panic)
-    ∷ (past (ofToken feeToken (f .creator0) (f .creator1) + creator), Panic)
-    ∷ []
+    pastTests
+    (ofToken inToken (f .protocol0) (f .protocol1))
+    (ofToken inToken (f .fund0) (f .fund1))
+    (ofToken feeToken (f .creator0) (f .creator1))
+    protocol fund creator
+
+-- the counters after it as an answer
+unfoldable pub bookingAnswer : Bool → Bool → ℕ → ℕ → ℕ → FeeCounters → Booking
+bookingAnswer inToken feeToken protocol fund creator f =
+    outcome (bookingTests inToken feeToken protocol fund creator f) Refused (Booked (booked inToken feeToken protocol fund creator f))

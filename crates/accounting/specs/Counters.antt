@@ -5,8 +5,10 @@ use mathlib.Core.Bool.{Bool, true, false}
 use mathlib.Core.List.{[], _∷_}
 use lib.Dec.{ltb}
 use Rattle.refusal.specs.Refusal.{MathOverflow, InsufficientVault}
-use Rattle.refusal.specs.Tests.{Tests, past}
+use Rattle.refusal.specs.Tests.{Tests, past, outcome}
 use Rattle.accounting.specs.declared.FeeCounters.{FeeCounters}
+use Rattle.accounting.specs.declared.Nets.{Nets}
+use Rattle.accounting.specs.declared.Nets.the-variants.{Of, Refused}
 
 -- of two things, token 0's and token 1's, that of a token
 abbrev pub ofToken : {A : Type 0} → Bool → A → A → A
@@ -31,3 +33,8 @@ counterTests vault0 vault1 f =
     ∷ (ltb vault0 (counters0 f), InsufficientVault)
     ∷ (ltb vault1 (counters1 f), InsufficientVault)
     ∷ []
+
+-- the two nets as an answer
+unfoldable pub netsAnswer : ℕ → ℕ → FeeCounters → Nets
+netsAnswer vault0 vault1 f =
+    outcome (counterTests vault0 vault1 f) Refused (Of (vault0 - counters0 f) (vault1 - counters1 f))

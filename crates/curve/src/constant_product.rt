@@ -117,7 +117,7 @@ pub fn lp_tokens_to_trading_tokens(
 }
 
 // The first refusal, or both amounts.
-fn both(amount_0: Answer, amount_1: Answer) -> TradingTokenResult
+pub fn both(amount_0: Answer, amount_1: Answer) -> TradingTokenResult
     ensures { λ r. ⌜ r ≡ tokensOf «amount_0» «amount_1» ⌝ }
 {
     match amount_0 {

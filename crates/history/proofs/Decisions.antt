@@ -1,59 +1,34 @@
 -- Every call, and the opening, as its tests and what it gives where all of them are passed.
 -- Assumes nothing.
-use Prim.Native.Nat.{ℕ, _+_, _*_, _-_, min}
+use Prim.Native.Nat.{ℕ, _*_, min}
 use mathlib.Core.Path.{_≡_, refl}
-use mathlib.Core.Bool.{Bool, true, false, cond}
-use mathlib.Core.List.{[], _∷_}
+use mathlib.Core.Bool.{Bool, true}
 use lib.Dec.{eqb}
 use Rattle.math.specs.Root.{root}
 use Rattle.refusal.specs.Tests.{Tests, _then_, outcome}
-use Rattle.refusal.proofs.Stops.{numbered}
+use Rattle.refusal.proofs.Stops.{numbered, outcome-map}
 use Rattle.curve.specs.declared.calculator.Rates.{Rates}
 use Rattle.curve.specs.declared.constant_product.RoundDirection.the-variants.{Floor, Ceiling}
 use Rattle.curve.specs.Fees.{feeDown}
 use Rattle.curve.specs.ConstantProduct.{lpAmount}
 use Rattle.curve.specs.declared.calculator.SwapResult.{SwapResult}
-use Rattle.curve.specs.Calculator.{rateLimits, onInput, swapBaseInput as inputWithFees, swapBaseOutput as outputWithFees}
+use Rattle.curve.specs.Calculator.{rateLimits, quoteTests, onInput, swapBaseInput as inputWithFees, swapBaseOutput as outputWithFees}
 use Rattle.accounting.specs.Counters.{counterTests}
-use Rattle.accounting.specs.Booking.{bookingTests}
+use Rattle.accounting.specs.Booking.{pastTests, bookingTests}
 use Rattle.oracle.specs.Ring.{Entries, ringTests}
 use Rattle.pool.specs.declared.state.Pool.{Pool}
 use Rattle.pool.specs.declared.state.After.{After}
-use Rattle.pool.specs.State.{net0, net1, creatorRate, refused, decided, withBooks, amounts, Done}
-use Rattle.pool.specs.Swap.{netIn, netOut, closedTests, netTests, bookTests, swapReceipt, swapped}
-use Rattle.pool.specs.SwapBaseInput.{inputTests, inputAt, swapBaseInput}
-use Rattle.pool.specs.SwapBaseOutput.{outputTests, outputAt, swapBaseOutput}
-use Rattle.pool.specs.Liquidity.{amountTests, depositTests, depositAt, deposit, withdrawTests, withdrawAt, withdraw}
-use Rattle.pool.specs.Settlement.{settlementTests, settledCounters, settlementReceipt, settlementAt, settlement}
-use Rattle.pool.specs.Status.{statusTests, flagged, withStatus, setStatus}
-use Rattle.pool.specs.Opening.{rateTests, zeroEntries, openPool, zeroPool, openingTests, opening}
+use Rattle.pool.specs.State.{net0, net1, creatorRate, refused, decided, amounts, Done}
+use Rattle.pool.specs.Swap.{netIn, netOut, closedTests, modelTests, netTests, bookTests, swapReceipt, swapped}
+use Rattle.pool.specs.SwapBaseInput.{inputFront, minimumTests, inputTests, inputAt, swapBaseInput}
+use Rattle.pool.specs.SwapBaseOutput.{outputFront, outputTests, outputAt, swapBaseOutput}
+use Rattle.pool.specs.Liquidity.{amountTests, depositFront, depositLast, depositTests, deposited, depositAt, deposit, withdrawFront, withdrawLast, withdrawTests, withdrawn, withdrawAt, withdraw}
+use Rattle.pool.specs.Settlement.{paymentTests, settlementTests, settlementReceipt, settled, settlementAt, settlement}
+use Rattle.pool.specs.Status.{statusTests, withFlag, setStatus}
+use Rattle.pool.specs.Opening.{rateTests, zeroEntries, openPool, zeroPool, openingFront, openingTests, opening}
 use Rattle.history.specs.declared.call.Call.{Call}
 use Rattle.history.specs.declared.call.Call.the-variants.{SwapBaseInput, SwapBaseOutput, Deposit, Withdraw, Settle, SetStatus}
 use Rattle.history.specs.Run.{State, besides, next}
-
--- ---- what the calls without a ring give where all tests are passed
-abbrev pub deposited : ℕ → ℕ → Pool → ℕ → After
-deposited amount0 amount1 p lp = record {
-  pool = withBooks p (p .vault0 + amount0) (p .vault1 + amount1) (p .fees) (p .supply + lp) (p .ring);
-  receipt = amounts 4 amount0 amount1 0 0 lp;
-}
-
-abbrev pub withdrawn : ℕ → ℕ → Pool → ℕ → After
-withdrawn amount0 amount1 p lp = record {
-  pool = withBooks p (p .vault0 - amount0) (p .vault1 - amount1) (p .fees) (p .supply - lp) (p .ring);
-  receipt = amounts 5 0 0 amount0 amount1 lp;
-}
-
-abbrev pub settled : ℕ → ℕ → Pool → After
-settled shared0 shared1 p = record {
-  pool =
-      withBooks p (p .vault0 - (p .fees .creator0 - shared0)) (p .vault1 - (p .fees .creator1 - shared1))
-      (settledCounters shared0 shared1 (p .fees)) (p .supply) (p .ring);
-  receipt = settlementReceipt (p .fees .creator0 - shared0) (p .fees .creator1 - shared1) shared0 shared1;
-}
-
-abbrev pub withFlag : ℕ → ℕ → Pool → After
-withFlag bit flag p = record { pool = withStatus p (flagged bit flag (p .status)); receipt = amounts 7 0 0 0 0 0 }
 
 -- ---- the tests of a call at a point, and what it gives past all of them
 pub record Decision : Type 0 where
@@ -144,26 +119,16 @@ pub record Decides (s : State) (k : Decision) (d : Done) : Type 0 where
   pub tests-numbered : numbered (k .tests) ≡ true
   pub accepted-zero : numberOf (k .accepted) ≡ 0
 
-outcome-ap : {A B : Type 0} (f : A → B) (ts : Tests) (bad : ℕ → A) (good : A) → f (outcome ts bad good) ≡ outcome ts (λ n. f (bad n)) (f good)
-unfolding outcome
-outcome-ap f [] bad good = refl
-outcome-ap f (t ∷ ts) bad good = go (t .0) (outcome-ap f ts bad good)
-  where
-    go :
-        (b : Bool) → f (outcome ts bad good) ≡ outcome ts (λ n. f (bad n)) (f good)
-        → f (cond b (bad (t .1)) (outcome ts bad good)) ≡ cond b (f (bad (t .1))) (outcome ts (λ n. f (bad n)) (f good))
-    go true e = refl
-    go false e = e
-
 -- a call without a ring
 decides-besides : (s : State) (ts : Tests) (a : After) → numbered ts ≡ true → a .receipt .number ≡ 0
     → Decides s (record { tests = ts; accepted = besides (s .entries) a }) (besides (s .entries) (decided ts (s .pool) a))
-decides-besides s ts a n z = record { by-tests = outcome-ap (besides (s .entries)) ts (refused (s .pool)) a; tests-numbered = n; accepted-zero = z }
+decides-besides s ts a n z = record { by-tests = outcome-map (besides (s .entries)) ts (refused (s .pool)) a; tests-numbered = n; accepted-zero = z }
 
 pub call-decides : (s : State) (c : Call) → Decides s (decision s c) (next s c)
-unfolding next decision _then_ counterTests amountTests bookingTests ringTests rateLimits closedTests netTests bookTests swapped swapReceipt
-    swapBaseInput inputAt inputTests swapBaseOutput outputAt outputTests deposit depositAt depositTests withdraw withdrawAt withdrawTests
-    settlement settlementAt settlementTests settlementReceipt setStatus statusTests amounts
+unfolding next decision _then_ counterTests amountTests pastTests bookingTests ringTests rateLimits closedTests modelTests netTests bookTests swapped swapReceipt
+    swapBaseInput inputAt inputFront minimumTests inputTests swapBaseOutput outputAt outputFront quoteTests outputTests deposit depositAt depositFront depositLast depositTests
+    withdraw withdrawAt withdrawFront withdrawLast withdrawTests
+    settlement settlementAt paymentTests settlementTests settlementReceipt setStatus statusTests amounts
 call-decides s (SwapBaseInput direction amount minimum clock) = record { by-tests = refl; tests-numbered = refl; accepted-zero = refl }
 call-decides s (SwapBaseOutput direction amount maximum clock) = record { by-tests = refl; tests-numbered = refl; accepted-zero = refl }
 call-decides s (Deposit lp maximum0 maximum1) = decides-besides s _ _ refl refl
@@ -173,5 +138,5 @@ call-decides s (SetStatus bit flag) = decides-besides s _ _ refl refl
 
 pub opening-decides : (amount0 amount1 model enabled openTime : ℕ) (rates : Rates)
     → Decides zeroState (openingDecision amount0 amount1 model enabled openTime rates) (opening amount0 amount1 model enabled openTime rates)
-unfolding opening openingDecision openingTests rateTests rateLimits _then_ amounts
+unfolding opening openingDecision openingFront openingTests rateTests rateLimits _then_ amounts
 opening-decides amount0 amount1 model enabled openTime rates = decides-besides zeroState _ _ refl refl

@@ -6,7 +6,7 @@ pub mod Kept
 pub mod StoredEntry
 pub mod RingKept
 pub mod PlainCalls
-pub mod FairSwaps
 pub mod Swaps
 pub mod ListTheorem
+pub mod Applied
 pub mod NotVacuous

@@ -17,8 +17,8 @@ use Rattle.curve.specs.Fees.{Million, feeDown}
 use Rattle.curve.specs.ConstantProduct.{lpAmount}
 use Rattle.accounting.specs.Counters.{counterTests}
 use Rattle.pool.specs.State.{withBooks, amounts}
-use Rattle.pool.specs.Liquidity.{amountTests, depositTests, withdrawTests}
-use Rattle.pool.specs.Settlement.{settlementTests, settledCounters, settlementReceipt}
+use Rattle.pool.specs.Liquidity.{amountTests, depositFront, depositLast, depositTests, withdrawFront, withdrawLast, withdrawTests}
+use Rattle.pool.specs.Settlement.{paymentTests, settlementTests, settledCounters, settlementReceipt}
 use Rattle.pool.specs.Status.{withStatus}
 use Rattle.history.specs.declared.call.Call.the-variants.{Deposit, Withdraw, Settle, SetStatus}
 use Rattle.curve.specs.declared.constant_product.LpTokens.{LpTokens}
@@ -70,7 +70,7 @@ module _ (s : State) (h : Sound s) where
   pub deposit-keeps :
       (lp : LpTokens) (maximum0 maximum1 : TradingTokens) → Passed (testsOf s (Deposit lp maximum0 maximum1))
       → Kept s (acceptedOf s (Deposit lp maximum0 maximum1))
-  unfolding decision _then_ depositTests counterTests amountTests withBooks amounts reckonOne counted heldBooks
+  unfolding decision _then_ depositFront depositLast depositTests counterTests amountTests withBooks amounts reckonOne counted heldBooks
   deposit-keeps lp maximum0 maximum1 t =
       let z : 0 < s .pool .supply = pos-of-ne-zero (eqb-false (s .pool .supply) 0 (search)) in
       record {
@@ -88,7 +88,7 @@ module _ (s : State) (h : Sound s) where
   pub withdraw-keeps :
       (lp owned : LpTokens) (minimum0 minimum1 : TradingTokens) → Passed (testsOf s (Withdraw lp owned minimum0 minimum1))
       → Kept s (acceptedOf s (Withdraw lp owned minimum0 minimum1))
-  unfolding decision _then_ withdrawTests counterTests amountTests withBooks amounts reckonOne counted heldBooks
+  unfolding decision _then_ withdrawFront withdrawLast withdrawTests counterTests amountTests withBooks amounts reckonOne counted heldBooks
   withdraw-keeps lp owned minimum0 minimum1 t =
       let l : lp .0 ≤ s .pool .supply = omega (arith, ltb-false) in
       record {
@@ -101,7 +101,7 @@ module _ (s : State) (h : Sound s) where
       }
 
   pub settle-keeps : (share : ℕ) → Passed (testsOf s (Settle share)) → Kept s (acceptedOf s (Settle share))
-  unfolding decision settlementTests settledCounters settlementReceipt withBooks feeDown reckonOne counted heldBooks
+  unfolding decision paymentTests settlementTests settledCounters settlementReceipt withBooks feeDown reckonOne counted heldBooks
   settle-keeps share t =
       let l : share ≤ Million = omega (arith, ltb-false) in
       let l0 = share-floor-le (s .pool .fees .creator0) share Million l in

@@ -18,16 +18,16 @@ use Rattle.oracle.specs.declared.Ring.{Ring}
 use Rattle.oracle.specs.Ring.{Updated}
 use Rattle.pool.specs.declared.state.Pool.{Pool}
 use Rattle.pool.specs.State.{net0, net1, creatorRate, withBooks}
-use Rattle.curve.specs.Calculator.{rateLimits}
-use Rattle.pool.specs.Swap.{netIn, netOut, closedTests, netTests, bookedPool, swapReceipt, swapped}
-use Rattle.pool.specs.SwapBaseInput.{inputTests}
-use Rattle.pool.specs.SwapBaseOutput.{outputTests}
+use Rattle.curve.specs.Calculator.{rateLimits, quoteTests}
+use Rattle.pool.specs.Swap.{netIn, netOut, closedTests, modelTests, netTests, bookedPool, swapReceipt, swapped}
+use Rattle.pool.specs.SwapBaseInput.{inputFront, inputTests}
+use Rattle.pool.specs.SwapBaseOutput.{outputFront, outputTests}
 use Rattle.history.specs.declared.call.Call.the-variants.{SwapBaseInput, SwapBaseOutput}
 use Rattle.history.specs.Run.{State}
 use Rattle.history.specs.Afresh.{summed, counted, reckonOne}
 use Rattle.history.specs.Demand3.{heldBooks}
 use Rattle.history.proofs.Decisions.{testsOf, acceptedOf, decision, feeOnInput}
-use Rattle.history.proofs.FairSwaps.{Fair, input-fair, output-fair}
+use Rattle.curve.proofs.FairSwaps.{Fair, input-fair, output-fair}
 use Rattle.history.proofs.Kept.{Sound, Covered, Kept, held}
 use Rattle.history.proofs.RingKept.{withUpdate, observed}
 
@@ -95,7 +95,7 @@ rates-limited p e = go (p .enabled) (ltb-false 999999 (p .rates .trade + p .rate
 module _ (s : State) (h : Sound s) (direction amount limit clock : ℕ) where
   pub input-keeps :
       Passed (testsOf s (SwapBaseInput direction amount limit clock)) → Kept s (acceptedOf s (SwapBaseInput direction amount limit clock))
-  unfolding decision _then_ inputTests rateLimits
+  unfolding decision _then_ inputFront inputTests rateLimits
   input-keeps t =
       let trade = rates-limited (s .pool) (t .0) in
       let shares = ltb-false Million (s .pool .rates .protocol + s .pool .rates .fund) (t .1 .0) in
@@ -104,7 +104,7 @@ module _ (s : State) (h : Sound s) (direction amount limit clock : ℕ) where
 
   pub output-keeps :
       Passed (testsOf s (SwapBaseOutput direction amount limit clock)) → Kept s (acceptedOf s (SwapBaseOutput direction amount limit clock))
-  unfolding decision _then_ outputTests rateLimits closedTests netTests counterTests
+  unfolding decision _then_ outputFront quoteTests outputTests rateLimits closedTests modelTests netTests counterTests
   output-keeps t =
       let trade = rates-limited (s .pool) (t .0) in
       let shares = ltb-false Million (s .pool .rates .protocol + s .pool .rates .fund) (t .1 .0) in

@@ -20,6 +20,10 @@ pub record State : Type 0 where
   pub pool : Pool
   pub entries : Entries
 
+-- a pool with the entries that are lent beside it
+abbrev pub stateOf : Pool → Entries → State
+stateOf p entries = record { pool = p; entries = entries }
+
 -- a call that does not use the ring leaves its entries as they were
 abbrev pub besides : Entries → After → Done
 besides entries a = record { after = a; entries = entries }

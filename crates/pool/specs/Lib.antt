@@ -6,3 +6,4 @@ pub mod SwapBaseOutput
 pub mod Liquidity
 pub mod Status
 pub mod Settlement
+pub mod Stages

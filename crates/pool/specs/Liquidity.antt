@@ -4,10 +4,15 @@ use mathlib.Core.Bool.{Bool}
 use mathlib.Core.List.{[], _∷_}
 use lib.Dec.{ltb, eqb}
 use Rattle.refusal.specs.Refusal.{RequireViolated, NotApproved, ZeroTradingTokens, Panic, ExceededSlippage, MathOverflow}
-use Rattle.refusal.specs.Tests.{Tests, _then_, past}
+use Rattle.refusal.specs.Tests.{Tests, _then_, past, outcome}
+use Rattle.curve.specs.declared.constant_product.RoundDirection.{RoundDirection}
 use Rattle.curve.specs.declared.constant_product.RoundDirection.the-variants.{Floor, Ceiling}
-use Rattle.curve.specs.ConstantProduct.{lpAmount}
+use Rattle.curve.specs.declared.constant_product.TradingTokenResult.{TradingTokenResult}
+use Rattle.curve.specs.declared.constant_product.TradingTokenResult.the-variants as T
+use Rattle.curve.specs.ConstantProduct.{lpAmount, tokens}
 use Rattle.accounting.specs.Counters.{counterTests}
+use Rattle.pool.specs.declared.liquidity.WorthAnswer.{WorthAnswer}
+use Rattle.pool.specs.declared.liquidity.WorthAnswer.the-variants.{Of, Refused}
 use Rattle.pool.specs.declared.state.Pool.{Pool}
 use Rattle.pool.specs.declared.state.After.{After}
 use Rattle.pool.specs.State.{net0, net1, bit, withBooks, amounts, decided}
@@ -22,29 +27,63 @@ amountTests amount0 amount1 supply =
     ∷ (past amount1, Panic)
     ∷ []
 
+-- ---- an LP amount's worth
+-- both tokens' parts, which are to be some
+unfoldable pub tokenAmounts : RoundDirection → ℕ → ℕ → ℕ → ℕ → TradingTokenResult
+tokenAmounts direction lp supply net0 net1 =
+    outcome (amountTests (lpAmount direction lp supply net0) (lpAmount direction lp supply net1) supply)
+    T.Refused
+    (T.Amounts (tokens (lpAmount direction lp supply net0)) (tokens (lpAmount direction lp supply net1)))
+
+-- of a pool: 8, 7; none or an amount 0, 4; an amount past u64, 11; else the nets and the amounts
+unfoldable pub worthOf : RoundDirection → Pool → ℕ → WorthAnswer
+worthOf direction p lp =
+    outcome
+    (counterTests (p .vault0) (p .vault1) (p .fees)
+    then amountTests (lpAmount direction lp (p .supply) (net0 p)) (lpAmount direction lp (p .supply) (net1 p)) (p .supply))
+    Refused
+    (Of (record {
+      net0 = net0 p;
+      net1 = net1 p;
+      amount0 = lpAmount direction lp (p .supply) (net0 p);
+      amount1 = lpAmount direction lp (p .supply) (net1 p);
+    }))
+
 -- ---- deposit
--- lp 0, 10; bit 0 set, 1; 8, 7; none or an amount 0, 4; an amount past u64, 11; above a maximum, 2; vault 8; supply past u64, 11
-unfoldable pub depositTests : ℕ → ℕ → Pool → ℕ → ℕ → ℕ → Tests
-depositTests amount0 amount1 p lp maximum0 maximum1 =
-    ((eqb lp 0, RequireViolated)
+-- lp 0, 10; bit 0 set, 1
+unfoldable pub depositFront : Pool → ℕ → Tests
+depositFront p lp =
+    (eqb lp 0, RequireViolated)
     ∷ (bit 0 (p .status), NotApproved)
-    ∷ [])
-    then (counterTests (p .vault0) (p .vault1) (p .fees)
-    then (amountTests amount0 amount1 (p .supply)
-    then ((ltb maximum0 amount0, ExceededSlippage)
+    ∷ []
+
+-- above a maximum, 2; vault 8; supply past u64, 11
+unfoldable pub depositLast : ℕ → ℕ → Pool → ℕ → ℕ → ℕ → Tests
+depositLast amount0 amount1 p lp maximum0 maximum1 =
+    (ltb maximum0 amount0, ExceededSlippage)
     ∷ (ltb maximum1 amount1, ExceededSlippage)
     ∷ (past (p .vault0 + amount0), MathOverflow)
     ∷ (past (p .vault1 + amount1), MathOverflow)
     ∷ (past (p .supply + lp), Panic)
-    ∷ [])))
+    ∷ []
+
+-- lp 0, 10; bit 0 set, 1; 8, 7; none or an amount 0, 4; an amount past u64, 11; above a maximum, 2; vault 8; supply past u64, 11
+unfoldable pub depositTests : ℕ → ℕ → Pool → ℕ → ℕ → ℕ → Tests
+depositTests amount0 amount1 p lp maximum0 maximum1 =
+    depositFront p lp
+    then (counterTests (p .vault0) (p .vault1) (p .fees)
+    then (amountTests amount0 amount1 (p .supply)
+    then depositLast amount0 amount1 p lp maximum0 maximum1))
+
+abbrev pub deposited : ℕ → ℕ → Pool → ℕ → After
+deposited amount0 amount1 p lp = record {
+  pool = withBooks p (p .vault0 + amount0) (p .vault1 + amount1) (p .fees) (p .supply + lp) (p .ring);
+  receipt = amounts 4 amount0 amount1 0 0 lp;
+}
 
 unfoldable pub depositAt : ℕ → ℕ → Pool → ℕ → ℕ → ℕ → After
 depositAt amount0 amount1 p lp maximum0 maximum1 =
-    decided (depositTests amount0 amount1 p lp maximum0 maximum1) p
-    (record {
-      pool = withBooks p (p .vault0 + amount0) (p .vault1 + amount1) (p .fees) (p .supply + lp) (p .ring);
-      receipt = amounts 4 amount0 amount1 0 0 lp;
-    })
+    decided (depositTests amount0 amount1 p lp maximum0 maximum1) p (deposited amount0 amount1 p lp)
 
 -- for deposits the amounts are rounded up
 unfoldable pub deposit : Pool → ℕ → ℕ → ℕ → After
@@ -52,28 +91,39 @@ deposit p lp maximum0 maximum1 =
     depositAt (lpAmount Ceiling lp (p .supply) (net0 p)) (lpAmount Ceiling lp (p .supply) (net1 p)) p lp maximum0 maximum1
 
 -- ---- withdrawal
+-- lp 0 or above the owner's, 10; bit 1, 1
+unfoldable pub withdrawFront : Pool → ℕ → ℕ → Tests
+withdrawFront p lp owned =
+    (eqb lp 0, RequireViolated)
+    ∷ (ltb owned lp, RequireViolated)
+    ∷ (bit 1 (p .status), NotApproved)
+    ∷ []
+
+-- below a minimum, 2; lp above supply, 11
+unfoldable pub withdrawLast : ℕ → ℕ → Pool → ℕ → ℕ → ℕ → Tests
+withdrawLast paid0 paid1 p lp minimum0 minimum1 =
+    (ltb paid0 minimum0, ExceededSlippage)
+    ∷ (ltb paid1 minimum1, ExceededSlippage)
+    ∷ (ltb (p .supply) lp, Panic)
+    ∷ []
+
 -- lp 0 or above the owner's, 10; bit 1, 1; 8, 7; 4; 11; amounts capped at the nets; below a minimum, 2; lp above supply, 11
 unfoldable pub withdrawTests : ℕ → ℕ → Pool → ℕ → ℕ → ℕ → ℕ → Tests
 withdrawTests amount0 amount1 p lp owned minimum0 minimum1 =
-    ((eqb lp 0, RequireViolated)
-    ∷ (ltb owned lp, RequireViolated)
-    ∷ (bit 1 (p .status), NotApproved)
-    ∷ [])
+    withdrawFront p lp owned
     then (counterTests (p .vault0) (p .vault1) (p .fees)
     then (amountTests amount0 amount1 (p .supply)
-    then ((ltb (min (net0 p) amount0) minimum0, ExceededSlippage)
-    ∷ (ltb (min (net1 p) amount1) minimum1, ExceededSlippage)
-    ∷ (ltb (p .supply) lp, Panic)
-    ∷ [])))
+    then withdrawLast (min (net0 p) amount0) (min (net1 p) amount1) p lp minimum0 minimum1))
+
+abbrev pub withdrawn : ℕ → ℕ → Pool → ℕ → After
+withdrawn paid0 paid1 p lp = record {
+  pool = withBooks p (p .vault0 - paid0) (p .vault1 - paid1) (p .fees) (p .supply - lp) (p .ring);
+  receipt = amounts 5 0 0 paid0 paid1 lp;
+}
 
 unfoldable pub withdrawAt : ℕ → ℕ → Pool → ℕ → ℕ → ℕ → ℕ → After
 withdrawAt amount0 amount1 p lp owned minimum0 minimum1 =
-    decided (withdrawTests amount0 amount1 p lp owned minimum0 minimum1) p
-    (record {
-      pool =
-          withBooks p (p .vault0 - min (net0 p) amount0) (p .vault1 - min (net1 p) amount1) (p .fees) (p .supply - lp) (p .ring);
-      receipt = amounts 5 0 0 (min (net0 p) amount0) (min (net1 p) amount1) lp;
-    })
+    decided (withdrawTests amount0 amount1 p lp owned minimum0 minimum1) p (withdrawn (min (net0 p) amount0) (min (net1 p) amount1) p lp)
 
 unfoldable pub withdraw : Pool → ℕ → ℕ → ℕ → ℕ → After
 withdraw p lp owned minimum0 minimum1 =

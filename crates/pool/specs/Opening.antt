@@ -34,13 +34,12 @@ zeroEntries = replicate 500 0
 abbrev pub zeroRates : Rates
 zeroRates = record { trade = 0; protocol = 0; fund = 0; creator = 0; share = 0 }
 
--- supply is the whole root of the product; the opener holds the whole of it
-unfoldable pub openPool : ℕ → ℕ → ℕ → Bool → ℕ → Rates → Pool
-openPool amount0 amount1 model enabled openTime rates = record {
+abbrev pub openWith : ℕ → ℕ → ℕ → ℕ → Bool → ℕ → Rates → Pool
+openWith amount0 amount1 supply model enabled openTime rates = record {
   vault0 = amount0;
   vault1 = amount1;
   fees = zeroCounters;
-  supply = root (amount0 * amount1);
+  supply = supply;
   status = 0;
   «open_time» = openTime;
   «fee_model» = model;
@@ -49,28 +48,26 @@ openPool amount0 amount1 model enabled openTime rates = record {
   ring = zeroRing;
 }
 
+-- supply is the whole root of the product; the opener holds the whole of it
+unfoldable pub openPool : ℕ → ℕ → ℕ → Bool → ℕ → Rates → Pool
+openPool amount0 amount1 model enabled openTime rates = openWith amount0 amount1 (root (amount0 * amount1)) model enabled openTime rates
+
 unfoldable pub zeroPool : Pool
-zeroPool = record {
-  vault0 = 0;
-  vault1 = 0;
-  fees = zeroCounters;
-  supply = 0;
-  status = 0;
-  «open_time» = 0;
-  «fee_model» = 0;
-  enabled = false;
-  rates = zeroRates;
-  ring = zeroRing;
-}
+zeroPool = openWith 0 0 0 0 false 0 zeroRates
+
+-- an amount 0 gives 6; model 9; enabled not 0 or 1, 3
+unfoldable pub openingFront : ℕ → ℕ → ℕ → ℕ → Tests
+openingFront amount0 amount1 model enabled =
+    (eqb amount0 0, EmptySupply)
+    ∷ (eqb amount1 0, EmptySupply)
+    ∷ (ltb 2 model, InvalidFeeModel)
+    ∷ (ltb 1 enabled, InvalidInput)
+    ∷ []
 
 -- an amount 0 gives 6; model 9; enabled not 0 or 1, the rates, 3; supply below 101 gives 13
 unfoldable pub openingTests : ℕ → ℕ → ℕ → ℕ → Rates → Tests
 openingTests amount0 amount1 model enabled rates =
-    ((eqb amount0 0, EmptySupply)
-    ∷ (eqb amount1 0, EmptySupply)
-    ∷ (ltb 2 model, InvalidFeeModel)
-    ∷ (ltb 1 enabled, InvalidInput)
-    ∷ [])
+    openingFront amount0 amount1 model enabled
     then (rateTests rates
     then ((ltb (root (amount0 * amount1)) 101, InitLpAmountTooLess)
     ∷ []))

@@ -32,15 +32,18 @@ settlementReceipt out0 out1 shared0 shared1 = record {
   shared1 = shared1;
 }
 
--- share, 3; protocol counter 8; the creators' amounts leave the vaults, too small is 7
-unfoldable pub settlementTests : ℕ → ℕ → Pool → ℕ → Tests
-settlementTests shared0 shared1 p share =
-    (ltb Million share, InvalidInput)
-    ∷ (past (p .fees .protocol0 + shared0), MathOverflow)
+-- protocol counter 8; the creators' amounts leave the vaults, too small is 7
+unfoldable pub paymentTests : ℕ → ℕ → Pool → Tests
+paymentTests shared0 shared1 p =
+    (past (p .fees .protocol0 + shared0), MathOverflow)
     ∷ (past (p .fees .protocol1 + shared1), MathOverflow)
     ∷ (ltb (p .vault0) (p .fees .creator0 - shared0), InsufficientVault)
     ∷ (ltb (p .vault1) (p .fees .creator1 - shared1), InsufficientVault)
     ∷ []
+
+-- share, 3; protocol counter 8; the creators' amounts leave the vaults, too small is 7
+unfoldable pub settlementTests : ℕ → ℕ → Pool → ℕ → Tests
+settlementTests shared0 shared1 p share = (ltb Million share, InvalidInput) ∷ paymentTests shared0 shared1 p
 
 -- the shared part goes to the protocol counter; creator counters become 0
 unfoldable pub settledCounters : ℕ → ℕ → FeeCounters → FeeCounters
@@ -53,15 +56,20 @@ settledCounters shared0 shared1 f = record {
   creator1 = 0;
 }
 
+abbrev pub settled : ℕ → ℕ → Pool → After
+settled shared0 shared1 p = record {
+  pool =
+      withBooks p (p .vault0 - (p .fees .creator0 - shared0)) (p .vault1 - (p .fees .creator1 - shared1))
+      (settledCounters shared0 shared1 (p .fees)) (p .supply) (p .ring);
+  receipt = settlementReceipt (p .fees .creator0 - shared0) (p .fees .creator1 - shared1) shared0 shared1;
+}
+
+-- once the share is known to be in range
+unfoldable pub settlementLast : ℕ → ℕ → Pool → After
+settlementLast shared0 shared1 p = decided (paymentTests shared0 shared1 p) p (settled shared0 shared1 p)
+
 unfoldable pub settlementAt : ℕ → ℕ → Pool → ℕ → After
-settlementAt shared0 shared1 p share =
-    decided (settlementTests shared0 shared1 p share) p
-    (record {
-      pool =
-          withBooks p (p .vault0 - (p .fees .creator0 - shared0)) (p .vault1 - (p .fees .creator1 - shared1))
-          (settledCounters shared0 shared1 (p .fees)) (p .supply) (p .ring);
-      receipt = settlementReceipt (p .fees .creator0 - shared0) (p .fees .creator1 - shared1) shared0 shared1;
-    })
+settlementAt shared0 shared1 p share = decided (settlementTests shared0 shared1 p share) p (settled shared0 shared1 p)
 
 unfoldable pub settlement : Pool → ℕ → After
 settlement p share = settlementAt (feeDown (p .fees .creator0) share) (feeDown (p .fees .creator1) share) p share

@@ -76,6 +76,9 @@ pub record Done : Type 0 where
   pub after : After
   pub entries : Entries
 
+abbrev pub done : After → Entries → Done
+done a entries = record { after = a; entries = entries }
+
 -- a receipt of amounts and LP alone, for the calls without fees
 unfoldable pub amounts : ℕ → ℕ → ℕ → ℕ → ℕ → ℕ → Receipt
 amounts kind in0 in1 out0 out1 lp = record {

@@ -33,7 +33,8 @@ statusTests bit flag =
     ∷ (ltb 1 flag, InvalidInput)
     ∷ []
 
+abbrev pub withFlag : ℕ → ℕ → Pool → After
+withFlag bit flag p = record { pool = withStatus p (flagged bit flag (p .status)); receipt = amounts 7 0 0 0 0 0 }
+
 unfoldable pub setStatus : Pool → ℕ → ℕ → After
-setStatus p bit flag =
-    decided (statusTests bit flag) p
-    (record { pool = withStatus p (flagged bit flag (p .status)); receipt = amounts 7 0 0 0 0 0 })
+setStatus p bit flag = decided (statusTests bit flag) p (withFlag bit flag p)

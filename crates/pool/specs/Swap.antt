@@ -6,12 +6,17 @@ use lib.Dec.{ltb, eqb}
 use Rattle.refusal.specs.Refusal.{NotApproved, InvalidVault, Panic, InvalidFeeModel, MathOverflow}
 use Rattle.refusal.specs.Tests.{Tests, _then_, past, outcome}
 use Rattle.curve.specs.declared.calculator.SwapResult.{SwapResult}
+use Rattle.accounting.specs.declared.FeeCounters.{FeeCounters}
+use Rattle.accounting.specs.declared.Nets.{Nets}
+use Rattle.accounting.specs.declared.Nets.the-variants.{Of, Refused}
 use Rattle.accounting.specs.Counters.{ofToken, counterTests}
 use Rattle.accounting.specs.Booking.{creatorToken, booked, bookingTests}
 use Rattle.oracle.specs.declared.Ring.{Ring}
 use Rattle.oracle.specs.Ring.{Entries, Updated, price, ringTests, updated}
+use Rattle.oracle.specs.Update.{storedIn}
 use Rattle.pool.specs.declared.receipt.Receipt.{Receipt}
 use Rattle.pool.specs.declared.state.Pool.{Pool}
+use Rattle.pool.specs.declared.swap.Decision.{Decision}
 use Rattle.pool.specs.State.{net0, net1, bit, refused, withBooks, Done}
 
 -- the nets of the token that goes in and of the one that comes out
@@ -29,32 +34,51 @@ closedTests p clock =
     ∷ (ltb clock (p .«open_time»), NotApproved)
     ∷ []
 
+-- a net of 0, 11; model 9
+unfoldable pub modelTests : ℕ → ℕ → ℕ → Tests
+modelTests net0 net1 model =
+    (eqb net0 0, Panic)
+    ∷ (eqb net1 0, Panic)
+    ∷ (ltb 2 model, InvalidFeeModel)
+    ∷ []
+
 -- counters' sums 8, vaults 7; a net of 0, 11; model 9
 unfoldable pub netTests : Pool → Tests
-netTests p =
-    counterTests (p .vault0) (p .vault1) (p .fees)
-    then ((eqb (net0 p) 0, Panic)
-    ∷ (eqb (net1 p) 0, Panic)
-    ∷ (ltb 2 (p .«fee_model»), InvalidFeeModel)
-    ∷ [])
+netTests p = counterTests (p .vault0) (p .vault1) (p .fees) then modelTests (net0 p) (net1 p) (p .«fee_model»)
 
--- a counter past u64, 11; vault 8; ring. Both prices are taken before the swap
+-- the nets as an answer
+unfoldable pub swapNets : Pool → Nets
+swapNets p = outcome (netTests p) Refused (Of (net0 p) (net1 p))
+
+-- vault 8; ring. Both prices are taken before the swap
+abbrev pub payTests : Bool → SwapResult → Pool → Entries → ℕ → Tests
+payTests zeroIn s p entries clock =
+    (past (ofToken zeroIn (p .vault0) (p .vault1) + s .input), MathOverflow)
+    ∷ ringTests (p .ring) entries clock (price (net0 p) (net1 p)) (price (net1 p) (net0 p))
+
+-- a counter past u64, 11; vault 8; ring
 unfoldable pub bookTests : Bool → Bool → SwapResult → Pool → Entries → ℕ → Tests
 bookTests zeroIn feeOnInput s p entries clock =
     bookingTests zeroIn (creatorToken feeOnInput zeroIn) (s .protocol) (s .fund) (s .creator) (p .fees)
-    then ((past (ofToken zeroIn (p .vault0) (p .vault1) + s .input), MathOverflow)
-    ∷ ringTests (p .ring) entries clock (price (net0 p) (net1 p)) (price (net1 p) (net0 p)))
+    then payTests zeroIn s p entries clock
 
 -- ---- the accepted swap
 -- a vault adds what was paid in and loses what was paid out
-unfoldable pub bookedPool : Bool → Bool → SwapResult → Ring → Pool → Pool
-bookedPool zeroIn feeOnInput s ring p =
+abbrev pub paidPool : Bool → SwapResult → FeeCounters → Ring → Pool → Pool
+paidPool zeroIn s fees ring p =
     withBooks p
     (ofToken zeroIn (p .vault0 + s .input) (p .vault0 - s .output))
     (ofToken zeroIn (p .vault1 - s .output) (p .vault1 + s .input))
-    (booked zeroIn (creatorToken feeOnInput zeroIn) (s .protocol) (s .fund) (s .creator) (p .fees))
+    fees
     (p .supply)
     ring
+
+-- the counters that a swap's fees go to
+abbrev pub bookedFees : Bool → Bool → SwapResult → FeeCounters → FeeCounters
+bookedFees zeroIn feeOnInput s f = booked zeroIn (creatorToken feeOnInput zeroIn) (s .protocol) (s .fund) (s .creator) f
+
+unfoldable pub bookedPool : Bool → Bool → SwapResult → Ring → Pool → Pool
+bookedPool zeroIn feeOnInput s ring p = paidPool zeroIn s (bookedFees zeroIn feeOnInput s (p .fees)) ring p
 
 unfoldable pub swapReceipt : ℕ → Bool → Bool → SwapResult → ℕ → Receipt
 swapReceipt kind zeroIn feeOnInput s clock = record {
@@ -87,3 +111,7 @@ swapped kind zeroIn feeOnInput s p entries clock =
 -- a swap's tests, and what it gives where all of them are passed; a refused one leaves the ring's entries as they were
 abbrev pub decidedSwap : Tests → Pool → Entries → Done → Done
 decidedSwap tests p entries accepted = outcome tests (λ n. record { after = refused p n; entries = entries }) accepted
+
+-- a swap that is decided and not yet written: what it gives, and what the ring's entries hold once its update is stored
+abbrev pub doneOf : Entries → Decision → Done
+doneOf entries d = record { after = d .after; entries = storedIn entries (d .update) }

@@ -13,21 +13,32 @@ use Rattle.pool.specs.State.{creatorRate, Done}
 use Rattle.pool.specs.Opening.{limitTests}
 use Rattle.pool.specs.Swap.{netIn, netOut, closedTests, netTests, bookTests, swapped, decidedSwap}
 
+-- the rate limits, 3; bit 2 set or clock before open time, 1; amount 0, 10; direction 5
+unfoldable pub inputFront : Pool → ℕ → ℕ → ℕ → Tests
+inputFront p direction amount clock =
+    limitTests (p .rates)
+    then (closedTests p clock
+    then ((eqb amount 0, RequireViolated)
+    ∷ (ltb 1 direction, InvalidVault)
+    ∷ []))
+
+-- output 0, 10; output below minimum, 2
+unfoldable pub minimumTests : ℕ → ℕ → Tests
+minimumTests output minimum =
+    (eqb output 0, RequireViolated)
+    ∷ (ltb output minimum, ExceededSlippage)
+    ∷ []
+
 -- the rate limits, 3; bit 2 set or clock before open time, 1; amount 0, 10; direction 5; counters' sums 8, vaults 7; a net of 0, 11;
 -- model 9; no split, 4; output 0, 10; output below minimum, 2; a counter past u64, 11; vault 8; ring
 unfoldable pub inputTests : Bool → Bool → SwapResult → Pool → Entries → ℕ → ℕ → ℕ → ℕ → Tests
 inputTests zeroIn feeOnInput s p entries direction amount minimum clock =
-    limitTests (p .rates)
-    then (closedTests p clock
-    then (((eqb amount 0, RequireViolated)
-    ∷ (ltb 1 direction, InvalidVault)
-    ∷ [])
+    inputFront p direction amount clock
     then (netTests p
     then (((noSplit feeOnInput (p .rates .trade) (creatorRate p), ZeroTradingTokens)
-    ∷ (eqb (s .output) 0, RequireViolated)
-    ∷ (ltb (s .output) minimum, ExceededSlippage)
     ∷ [])
-    then bookTests zeroIn feeOnInput s p entries clock))))
+    then (minimumTests (s .output) minimum
+    then bookTests zeroIn feeOnInput s p entries clock)))
 
 unfoldable pub inputAt : Bool → Bool → SwapResult → Pool → Entries → ℕ → ℕ → ℕ → ℕ → Done
 inputAt zeroIn feeOnInput s p entries direction amount minimum clock =

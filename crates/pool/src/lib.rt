@@ -1,3 +1,12 @@
 // The pool: its record, its receipts, and the calls.
+pub mod creator_fee_share;
+pub mod deposit;
+pub mod liquidity;
+pub mod opening;
 pub mod receipt;
 pub mod state;
+pub mod status;
+pub mod swap;
+pub mod swap_base_input;
+pub mod swap_base_output;
+pub mod withdraw;

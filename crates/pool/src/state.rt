@@ -1,8 +1,14 @@
 // The pool's record (the original's states/pool.rs, with its vaults, rates and ring).
 use crate::receipt::Receipt;
+use crate::receipt::refusal_receipt;
 use accounting::FeeCounters;
+use accounting::Nets;
+use accounting::vault_amount_without_fee;
 use curve::calculator::Rates;
 use oracle::Ring;
+ghost use mathlib.Core.Path.{_≡_};
+ghost use Rattle.accounting.specs.Counters.{netsAnswer};
+ghost use Rattle.pool.specs.State.{refused};
 
 // Bits 0, 1 and 2 of the status close deposits, withdrawals and swaps. The ring's entries are lent beside the pool.
 pub struct Pool {
@@ -28,4 +34,25 @@ pub struct After {
 pub struct Opened {
     pub after: After,
     pub entries: [u64; 500],
+}
+
+impl Pool {
+    // A refused call: the pool as it was, the number and zeros.
+    pub(crate) fn refuse(self, number: u64) -> After
+        ensures { λ r. ⌜ r ≡ refused self number ⌝ }
+    {
+        let receipt = refusal_receipt(number);
+        After {
+            pool: self,
+            receipt,
+        }
+    }
+
+    // The two nets, or 8 or 7.
+    pub fn nets(self) -> Nets
+        ensures { λ r. ⌜ r ≡ netsAnswer (self .vault0) (self .vault1) (self .fees) ⌝ }
+    {
+        let fees = self.fees;
+        vault_amount_without_fee(self.vault0, self.vault1, fees)
+    }
 }

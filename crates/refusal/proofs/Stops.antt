@@ -100,6 +100,12 @@ module _ {A : Type 0} where
   unfolding outcome
   outcome-past t ts refused accepted h = rw h
 
+  -- one stage, and then the next
+  pub outcome-then : (xs ys : Tests) (refused : ℕ → A) (accepted : A) → outcome xs refused (outcome ys refused accepted) ≡ outcome (xs then ys) refused accepted
+  unfolding outcome _then_
+  outcome-then [] ys refused accepted = refl
+  outcome-then (t ∷ xs) ys refused accepted = ap (λ (a : A). cond (t .0) (refused (t .1)) a) (outcome-then xs ys refused accepted)
+
   -- a call whose number is found by a function of its own
   pub outcome-stop : (ts : Tests) (refused : ℕ → A) (accepted : A) (n : ℕ) → n ≡ first ts → (n ≡ 0 → ⊥) → refused n ≡ outcome ts refused accepted
   unfolding first outcome
@@ -130,3 +136,17 @@ module _ {A : Type 0} where
           → P (cond b (refused (t .1)) (outcome ts refused accepted))
       go true e rest = bad (t .1)
       go false e rest = rest (λ h. good (e, h))
+
+-- what is made of an outcome is the outcome of what is made of each
+pub outcome-map :
+    {A B : Type 0} (f : A → B) (ts : Tests) (refused : ℕ → A) (accepted : A)
+    → f (outcome ts refused accepted) ≡ outcome ts (λ n. f (refused n)) (f accepted)
+unfolding outcome
+outcome-map f [] refused accepted = refl
+outcome-map {A} {B} f (t ∷ ts) refused accepted = go (t .0) (outcome-map f ts refused accepted)
+  where
+    go :
+        (b : Bool) → f (outcome ts refused accepted) ≡ outcome ts (λ n. f (refused n)) (f accepted)
+        → f (cond b (refused (t .1)) (outcome ts refused accepted)) ≡ cond b (f (refused (t .1))) (outcome ts (λ n. f (refused n)) (f accepted))
+    go true e = refl
+    go false e = e

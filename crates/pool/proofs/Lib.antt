@@ -1,0 +1,3 @@
+pub mod SwapBooking
+pub mod SwapStages
+pub mod LiquidityLaws

@@ -1,0 +1,131 @@
+-- Deposit and withdrawal: the stages, each with an answer of its own, make up one list of tests.
+-- Assumes nothing.
+use mathlib.Core.Path.{_≡_, refl, sym, ap, subst, _∙_}
+use mathlib.Core.Bool.{Bool, true, false}
+use mathlib.Core.List.{[], _∷_}
+use Prim.Native.Nat.{ℕ, _≤_}
+use native.Mathlib.Omega.{arith}
+use lib.Dec.{eqb}
+use borrow.Author.Tests.{ltb-true, ne-eqb}
+use Rattle.refusal.specs.Refusal.{ZeroTradingTokens, Panic}
+use Rattle.refusal.specs.Tests.{Tests, _then_, first, U64, past, outcome}
+use Rattle.refusal.proofs.Stops.{numbered, outcome-go, outcome-then, outcome-map, outcome-elim}
+use Rattle.curve.specs.declared.answer.Answer.the-variants as A
+use Rattle.curve.specs.declared.constant_product.RoundDirection.{RoundDirection}
+use Rattle.curve.specs.declared.constant_product.TradingTokenResult.{TradingTokenResult}
+use Rattle.curve.specs.declared.constant_product.TradingTokenResult.the-variants as T
+use Rattle.curve.specs.ConstantProduct.{lpAmount, lpPart, tokens}
+use Rattle.accounting.specs.declared.Nets.{Nets}
+use Rattle.accounting.specs.declared.Nets.the-variants as N
+use Rattle.accounting.specs.Counters.{counterTests, netsAnswer}
+use Rattle.pool.specs.declared.liquidity.Worth.{Worth}
+use Rattle.pool.specs.declared.liquidity.WorthAnswer.{WorthAnswer}
+use Rattle.pool.specs.declared.liquidity.WorthAnswer.the-variants.{Of, Refused}
+use Rattle.pool.specs.declared.state.Pool.{Pool}
+use Rattle.pool.specs.declared.state.After.{After}
+use Rattle.pool.specs.State.{net0, net1, refused, decided}
+use Rattle.pool.specs.Liquidity.{amountTests, tokenAmounts, worthOf}
+use Rattle.pool.specs.Stages.{isNone, someTokens}
+
+-- ---- both tokens' parts, which are to be some
+-- an amount past u64 is not 0
+past-some : (n : ℕ) → past n ≡ true → eqb n 0 ≡ false
+past-some n e = ne-eqb n 0 (omega (arith, ltb-true U64 n e))
+
+-- supply 0 is the same for both parts; an amount of 0 in the second comes before the first's being past u64
+some-parts :
+    (none past0 past1 : Bool) (a0 a1 : ℕ) → (past0 ≡ true → eqb a0 0 ≡ false) → (past1 ≡ true → eqb a1 0 ≡ false)
+    → someTokens
+    (outcome ((none, ZeroTradingTokens) ∷ (past0, Panic) ∷ []) A.Refused (A.Amount a0))
+    (outcome ((none, ZeroTradingTokens) ∷ (past1, Panic) ∷ []) A.Refused (A.Amount a1))
+    ≡ outcome
+    ((none, ZeroTradingTokens) ∷ (eqb a0 0, ZeroTradingTokens) ∷ (eqb a1 0, ZeroTradingTokens) ∷ (past0, Panic) ∷ (past1, Panic) ∷ [])
+    T.Refused
+    (T.Amounts (tokens a0) (tokens a1))
+unfolding outcome someTokens isNone
+some-parts true past0 past1 a0 a1 h0 h1 = refl
+some-parts false true true a0 a1 h0 h1 = rw (h0 refl, h1 refl)
+some-parts false true false a0 a1 h0 h1 = rw (h0 refl)
+some-parts false false true a0 a1 h0 h1 = rw (h1 refl)
+some-parts false false false a0 a1 h0 h1 = refl
+
+pub some-tokens :
+    (direction : RoundDirection) (lp supply n0 n1 : ℕ)
+    → someTokens (lpPart direction lp supply n0) (lpPart direction lp supply n1) ≡ tokenAmounts direction lp supply n0 n1
+unfolding lpPart tokenAmounts amountTests
+some-tokens direction lp supply n0 n1 =
+    let a0 = lpAmount direction lp supply n0 in
+    let a1 = lpAmount direction lp supply n1 in
+    some-parts (eqb supply 0) (past a0) (past a1) a0 a1 (past-some a0) (past-some a1)
+
+-- ---- an LP amount's worth
+-- what the two answers on the way, the nets and the amounts, come to
+unfoldable pub tokensWorth : ℕ → ℕ → TradingTokenResult → WorthAnswer
+tokensWorth n0 n1 (T.Refused number) = Refused number
+tokensWorth n0 n1 (T.Amounts a0 a1) = Of (record { net0 = n0; net1 = n1; amount0 = a0 .0; amount1 = a1 .0 })
+
+unfoldable pub netsWorth : RoundDirection → ℕ → ℕ → Nets → WorthAnswer
+netsWorth direction supply lp (N.Refused number) = Refused number
+netsWorth direction supply lp (N.Of n0 n1) = tokensWorth n0 n1 (tokenAmounts direction lp supply n0 n1)
+
+module _ (direction : RoundDirection) (p : Pool) (lp : ℕ) where
+  pub worth-answer : netsWorth direction (p .supply) lp (netsAnswer (p .vault0) (p .vault1) (p .fees)) ≡ worthOf direction p lp
+  unfolding netsWorth tokensWorth netsAnswer tokenAmounts worthOf
+  worth-answer =
+      outcome-map (netsWorth direction (p .supply) lp) (counterTests (p .vault0) (p .vault1) (p .fees)) N.Refused (N.Of (net0 p) (net1 p))
+      ∙ ap
+      (outcome (counterTests (p .vault0) (p .vault1) (p .fees)) Refused)
+      (outcome-map (tokensWorth (net0 p) (net1 p)) _ T.Refused _)
+      ∙ outcome-then _ _ Refused _
+
+  -- a worth's nets lie within the vaults
+  Within : WorthAnswer → Type 0
+  Within (Refused number) = Unit {0}
+  Within (Of w) = (w .net0 ≤ p .vault0) × (w .net1 ≤ p .vault1)
+
+  pub nets-within : {w : Worth} → Of w ≡ worthOf direction p lp → (w .net0 ≤ p .vault0) × (w .net1 ≤ p .vault1)
+  unfolding worthOf Within
+  nets-within {w} e = subst Within (sym e) (outcome-elim Within _ Refused _ (λ n. tt) (λ passed. (omega arith, omega arith)))
+
+-- ---- a call on the worth
+-- two stages and then a third are one stage and then two
+regroup :
+    {A : Type 0} (xs ys zs : Tests) (bad : ℕ → A) (good : A)
+    → outcome (xs then ys) bad (outcome zs bad good) ≡ outcome (xs then (ys then zs)) bad good
+regroup xs ys zs bad good =
+    sym (outcome-then xs ys bad (outcome zs bad good))
+    ∙ ap (outcome xs bad) (outcome-then ys zs bad good)
+    ∙ outcome-then xs (ys then zs) bad good
+
+-- the worth's refusal is the call's, and of a worth the last stage is made
+unfoldable pub onWorth : Pool → (Worth → After) → WorthAnswer → After
+onWorth p last (Refused number) = refused p number
+onWorth p last (Of w) = last w
+
+-- past the front the call is what the last stage makes of the worth
+pub past-front :
+    (direction : RoundDirection) (p : Pool) (lp : ℕ) (front tests : Tests) (accepted : After) (last : Worth → After) (number : ℕ)
+    → numbered front ≡ true → number ≡ first front → number ≡ 0
+    → last (record {
+      net0 = net0 p;
+      net1 = net1 p;
+      amount0 = lpAmount direction lp (p .supply) (net0 p);
+      amount1 = lpAmount direction lp (p .supply) (net1 p);
+    })
+    ≡ decided tests p accepted
+    → {worth : WorthAnswer} → worth ≡ worthOf direction p lp
+    → onWorth p last worth
+    ≡ decided
+    (front
+    then (counterTests (p .vault0) (p .vault1) (p .fees)
+    then (amountTests (lpAmount direction lp (p .supply) (net0 p)) (lpAmount direction lp (p .supply) (net1 p)) (p .supply)
+    then tests)))
+    p accepted
+unfolding onWorth worthOf
+past-front direction p lp front tests accepted last number m e z same told =
+    ap (onWorth p last) told
+    ∙ outcome-map (onWorth p last) _ Refused _
+    ∙ ap (outcome _ (refused p)) same
+    ∙ regroup _ _ _ (refused p) accepted
+    ∙ outcome-go front (refused p) _ number m e z
+    ∙ outcome-then front _ (refused p) accepted

@@ -1,0 +1,111 @@
+-- `pool::state::Pool::input_at` meets its contract: the quote, its limit, and then the booking.
+-- Assumes nothing.
+use mathlib.Core.Path.{_≡_, refl, sym, _∙_}
+use Prim.Native.Nat.{ℕ}
+use Rattle.refusal.specs.Tests.{Tests}
+use Rattle.curve.specs.declared.calculator.SwapResult.{SwapResult}
+use Rattle.curve.specs.declared.calculator.SwapAnswer.the-variants.{Swapped}
+use Rattle.curve.specs.Calculator.{inputAnswer}
+use Rattle.curve.specs.Stages.{inputStage}
+use Rattle.pool.specs.SwapBaseInput.{minimumTests}
+use Rattle.pool.specs.Stages.{inputQuoted}
+use Rattle.pool.proofs.SwapStages.{calculated, quote-refused, limit-refused, limit-passed, handed, input-answer, input-covered}
+use borrow.Author.Needs.{needs}
+use Rattle.pool.proofs.state.Pool.input_at.Statement.{statement}
+use Rattle.pool.proofs.state.Pool.input_at.Tie as tie
+
+is-creator-fee-on-input-requires : tie.Need-is-creator-fee-on-input-requires
+is-creator-fee-on-input-requires c κs = search needs
+
+adjust-creator-fee-rate-requires : tie.Need-adjust-creator-fee-rate-requires
+adjust-creator-fee-rate-requires c κs = search needs
+
+of-token-requires : tie.Need-of-token-requires
+of-token-requires c κs = search needs
+
+of-token-requires-2 : tie.Need-of-token-requires-2
+of-token-requires-2 c κs = search needs
+
+swap-base-input-requires : tie.Need-swap-base-input-requires
+swap-base-input-requires c κs = search needs
+
+enum-known-number : tie.Need-enum-known-number
+enum-known-number c = search needs
+
+refuse-swap-requires : tie.Need-refuse-swap-requires
+refuse-swap-requires c κs = search needs
+
+enum-known-s : tie.Need-enum-known-s
+enum-known-s c = search needs
+
+minimum-number-requires : tie.Need-minimum-number-requires
+minimum-number-requires c κs = search needs
+
+refuse-swap-requires-2 : tie.Need-refuse-swap-requires-2
+refuse-swap-requires-2 c κs = search needs
+
+-- what the calculator answers, once the rates and the nets are known to pass its tests
+answer :
+    (c : tie.After-swap-base-input)
+    → let a = c .before .before .before .before .before .before .args in
+    c .swap-base-input .result ≡ calculated inputStage (a .self) (a .zero-in) (a .amount)
+answer c =
+    let r = c .before .before .before .before in
+    let s = r .before .before in
+    input-answer (s .args .self) (s .args .zero-in) (s .pre .2) (s .args .amount) _
+    (handed (s .args .self) (s .args .zero-in) inputAnswer _ _ _ _ _ _ _ _ (r .is-creator-fee-on-input .ensures) (c .before .before .before .adjust-creator-fee-rate .ensures)
+    (c .before .before .of-token .ensures) (c .before .of-token2 .ensures) (s .pre .0) (s .pre .1) (c .swap-base-input .ensures))
+
+-- the result that it came to
+quoted :
+    (c : tie.After-s)
+    → let a = c .before .before .before .before .before .before .before .before .args in
+    Swapped (c .s .given .0 .0) ≡ calculated inputStage (a .self) (a .zero-in) (a .amount)
+quoted c = sym (c .s .given .1) ∙ answer (c .before .before)
+
+-- the limit on the output
+abbrev limit : ℕ → SwapResult → Tests
+limit minimum s = minimumTests (s .output) minimum
+
+returns : tie.Need-returns
+unfolding inputQuoted inputStage
+returns c =
+    let q = c .before .before .before .before in
+    limit-refused _ _ _ _ _ (limit _) _ _ _ (quoted q) _ _ (c .refuse-swap2 .ensures) (c .before .before .minimum-number .ensures) (c .before .if1 .taken)
+
+book-requires : tie.Need-book-requires
+book-requires c κs =
+    let q = c .before .before .before in
+    let s = q .before .before .before .before .before .before .before .before in
+    (s .pre .0, s .pre .1, input-covered (s .args .self) (s .args .zero-in) (s .pre .2) (s .args .amount) _ (quoted q))
+
+returns-2 : tie.Need-returns-2
+unfolding inputQuoted inputStage
+returns-2 c =
+    quote-refused _ _ _ _ _ (limit _) _ _ _ _ (c .refuse-swap .ensures) (sym (c .before .before .number .given .1) ∙ answer (c .before .before .before .before))
+
+returns-3 : tie.Need-returns-3
+unfolding inputQuoted inputStage minimumTests
+returns-3 c =
+    let q = c .before .before .before .before in
+    limit-passed _ _ _ 2 _ (limit _) _ _ _ (quoted q) _ _ _ refl (c .before .before .minimum-number .ensures) (c .before .if1 .left)
+    (q .before .before .before .before .before .before .is-creator-fee-on-input .ensures) (c .book .ensures)
+
+pub input-at-spec : {M : Type 1} → statement M
+input-at-spec =
+    tie.close
+    (tie.spec
+    is-creator-fee-on-input-requires
+    adjust-creator-fee-rate-requires
+    of-token-requires
+    of-token-requires-2
+    swap-base-input-requires
+    enum-known-number
+    refuse-swap-requires
+    enum-known-s
+    minimum-number-requires
+    refuse-swap-requires-2
+    returns
+    book-requires
+    returns-2
+    returns-3)

@@ -1,0 +1,87 @@
+-- What the private steps of this crate answer. No public definition rests on these.
+use Prim.Native.Nat.{ℕ, _+_, _≤_, _<_}
+use mathlib.Core.Bool.{Bool, cond}
+use mathlib.Core.List.{[], _∷_}
+use lib.Dec.{ltb, eqb}
+use Rattle.refusal.specs.Refusal.{ZeroTradingTokens, ExceededSlippage}
+use Rattle.refusal.specs.Tests.{_then_}
+use Rattle.curve.specs.Fees.{Million}
+use Rattle.curve.specs.Calculator.{onInput, noSplit, quoteTests, swapBaseInput as inputWithFees, swapBaseOutput as outputWithFees}
+use Rattle.accounting.specs.Counters.{counters0, counters1}
+use Rattle.curve.specs.declared.answer.Answer.{Answer}
+use Rattle.curve.specs.declared.answer.Answer.the-variants.{Amount, Refused}
+use Rattle.curve.specs.declared.constant_product.TradingTokenResult.{TradingTokenResult}
+use Rattle.curve.specs.declared.constant_product.TradingTokenResult.the-variants as T
+use Rattle.curve.specs.Stages.{tokensOf}
+use Rattle.curve.specs.declared.calculator.SwapResult.{SwapResult}
+use Rattle.accounting.specs.declared.FeeCounters.{FeeCounters}
+use Rattle.oracle.specs.declared.Update.the-variants as U
+use Rattle.oracle.specs.Ring.{Entries, Updated, price, updated}
+use Rattle.pool.specs.declared.state.Pool.{Pool}
+use Rattle.pool.specs.declared.swap.Decision.{Decision}
+use Rattle.pool.specs.State.{net0, net1, creatorRate, refused, Done}
+use Rattle.pool.specs.Swap.{netIn, netOut, payTests, paidPool, bookTests, swapReceipt, swapped, decidedSwap}
+use Rattle.pool.specs.SwapBaseInput.{minimumTests}
+
+-- a refused swap: nothing is to be written
+unfoldable pub refusedSwap : Pool → ℕ → Decision
+refusedSwap p n = record { after = refused p n; update = U.Refused n }
+
+-- a swap whose counters are booked: its last tests, and what it gives
+unfoldable pub paid : ℕ → Bool → Bool → SwapResult → FeeCounters → Pool → Entries → ℕ → Done
+paid kind zeroIn feeOnInput s fees p entries clock =
+    let u = updated (p .ring) entries clock (price (net0 p) (net1 p)) (price (net1 p) (net0 p)) in
+    decidedSwap (payTests zeroIn s p entries clock) p entries
+    (record {
+      after = record { pool = paidPool zeroIn s fees (u .ring) p; receipt = swapReceipt kind zeroIn feeOnInput s clock };
+      entries = u .entries;
+    })
+
+-- a swap whose amounts are known: its last tests, and what it gives
+unfoldable pub bookedSwap : ℕ → Bool → Bool → SwapResult → Pool → Entries → ℕ → Done
+bookedSwap kind zeroIn feeOnInput s p entries clock =
+    decidedSwap (bookTests zeroIn feeOnInput s p entries clock) p entries (swapped kind zeroIn feeOnInput s p entries clock)
+
+-- a pool that has passed a swap's tests up to the model: its rates within the limits, its vaults above their counters, its nets not 0
+pub record Swappable (p : Pool) : Type 0 where
+  pub fees : p .rates .trade + p .rates .creator ≤ 999999
+  pub shares : p .rates .protocol + p .rates .fund ≤ Million
+  pub covered0 : counters0 (p .fees) ≤ p .vault0
+  pub covered1 : counters1 (p .fees) ≤ p .vault1
+  pub some0 : 0 < net0 p
+  pub some1 : 0 < net1 p
+
+-- the rest of a swap by input: no split, 4; output 0, 10; output below minimum, 2; then the booking
+unfoldable pub inputQuoted : Bool → Pool → Entries → ℕ → ℕ → ℕ → Done
+inputQuoted zeroIn p entries amount minimum clock =
+    let feeOnInput = onInput (p .«fee_model») zeroIn in
+    let s = inputWithFees feeOnInput (p .rates) (creatorRate p) (netIn zeroIn p) (netOut zeroIn p) amount in
+    decidedSwap
+    (((noSplit feeOnInput (p .rates .trade) (creatorRate p), ZeroTradingTokens)
+    ∷ [])
+    then (minimumTests (s .output) minimum
+    then bookTests zeroIn feeOnInput s p entries clock))
+    p entries
+    (swapped 2 zeroIn feeOnInput s p entries clock)
+
+-- the rest of a swap by output: the quote's tests; input above maximum, 2; then the booking
+unfoldable pub outputQuoted : Bool → Pool → Entries → ℕ → ℕ → ℕ → Done
+outputQuoted zeroIn p entries amount maximum clock =
+    let feeOnInput = onInput (p .«fee_model») zeroIn in
+    let s = outputWithFees feeOnInput (p .rates) (creatorRate p) (netIn zeroIn p) (netOut zeroIn p) amount in
+    decidedSwap
+    (quoteTests feeOnInput (p .rates) (creatorRate p) (netIn zeroIn p) (netOut zeroIn p) amount
+    then (((ltb maximum (s .input), ExceededSlippage)
+    ∷ [])
+    then bookTests zeroIn feeOnInput s p entries clock))
+    p entries
+    (swapped 3 zeroIn feeOnInput s p entries clock)
+
+-- none, or an amount of 0
+unfoldable pub isNone : Answer → Bool
+isNone (Amount amount) = eqb amount 0
+isNone (Refused number) = eqb number ZeroTradingTokens
+
+-- 4 where one of them is none, else the first refusal or both amounts
+unfoldable pub someTokens : Answer → Answer → TradingTokenResult
+someTokens a b = cond (isNone a) (T.Refused ZeroTradingTokens) (cond (isNone b) (T.Refused ZeroTradingTokens) (tokensOf a b))

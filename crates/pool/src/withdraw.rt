@@ -1,0 +1,108 @@
+// Withdrawal: LP tokens for tokens of both kinds.
+use crate::liquidity::WorthAnswer;
+use crate::receipt::amounts_receipt;
+use crate::state::After;
+use crate::state::Pool;
+use curve::constant_product::LpTokens;
+use curve::constant_product::RoundDirection;
+use curve::constant_product::TradingTokens;
+use refusal::ACCEPTED;
+use refusal::EXCEEDED_SLIPPAGE;
+use refusal::NOT_APPROVED;
+use refusal::PANIC;
+use refusal::REQUIRE_VIOLATED;
+ghost use mathlib.Core.Path.{_≡_};
+ghost use Prim.Native.Nat.{_≤_, min};
+ghost use Rattle.refusal.specs.Tests.{first};
+ghost use Rattle.pool.specs.State.{decided};
+ghost use Rattle.pool.specs.Liquidity.{withdrawFront, withdrawLast, withdrawn, withdraw};
+
+// lp 0 or above the owner's, 10; bit 1, 1; or 0.
+fn withdraw_front(pool: Pool, lp: u64, owned: u64) -> u64
+    ensures { λ r. ⌜ r ≡ first (withdrawFront pool lp owned) ⌝ }
+{
+    let status = pool.status;
+    if lp == 0 {
+        return REQUIRE_VIOLATED;
+    }
+    if lp > owned {
+        return REQUIRE_VIOLATED;
+    }
+    if status / 2 % 2 == 1 {
+        return NOT_APPROVED;
+    }
+    ACCEPTED
+}
+
+// Below a minimum, 2; lp above supply, 11; or 0.
+fn withdraw_last(pool: Pool, lp: u64, paid0: u64, paid1: u64, minimum0: u64, minimum1: u64) -> u64
+    ensures { λ r. ⌜ r ≡ first (withdrawLast paid0 paid1 pool lp minimum0 minimum1) ⌝ }
+{
+    let supply = pool.supply;
+    if paid0 < minimum0 {
+        return EXCEEDED_SLIPPAGE;
+    }
+    if paid1 < minimum1 {
+        return EXCEEDED_SLIPPAGE;
+    }
+    if lp > supply {
+        return PANIC;
+    }
+    ACCEPTED
+}
+
+// Amounts are capped at the nets.
+fn capped(net: u64, amount: u64) -> u64
+    ensures { λ r. ⌜ r ≡ min net amount ⌝ }
+{
+    if net <= amount { net } else { amount }
+}
+
+impl Pool {
+    // The amounts are known: the booking, or its refusal.
+    fn withdraw_at(self, lp: u64, paid0: u64, paid1: u64, minimum0: u64, minimum1: u64) -> After
+        requires { ⌜ (paid0 ≤ self .vault0) × (paid1 ≤ self .vault1) ⌝ }
+        ensures { λ r. ⌜ r ≡ decided (withdrawLast paid0 paid1 self lp minimum0 minimum1) self (withdrawn paid0 paid1 self lp) ⌝ }
+    {
+        let number = withdraw_last(self, lp, paid0, paid1, minimum0, minimum1);
+        if number != ACCEPTED {
+            return self.refuse(number);
+        }
+        let vault0 = self.vault0;
+        let vault1 = self.vault1;
+        let supply = self.supply;
+        let receipt = amounts_receipt(5, 0, 0, paid0, paid1, lp);
+        After {
+            pool: Pool {
+                vault0: vault0 - paid0,
+                vault1: vault1 - paid1,
+                supply: supply - lp,
+                ..self
+            },
+            receipt,
+        }
+    }
+
+    pub fn withdraw(
+        self,
+        lp: LpTokens,
+        owned: LpTokens,
+        minimum0: TradingTokens,
+        minimum1: TradingTokens,
+    ) -> After
+        ensures { λ r. ⌜ r ≡ withdraw self (lp .0) (owned .0) (minimum0 .0) (minimum1 .0) ⌝ }
+    {
+        let number = withdraw_front(self, lp.0, owned.0);
+        if number != ACCEPTED {
+            return self.refuse(number);
+        }
+        match self.worth(lp, RoundDirection::Floor) {
+            WorthAnswer::Refused(number) => self.refuse(number),
+            WorthAnswer::Of(worth) => {
+                let paid0 = capped(worth.net0, worth.amount0);
+                let paid1 = capped(worth.net1, worth.amount1);
+                self.withdraw_at(lp.0, paid0, paid1, minimum0.0, minimum1.0)
+            }
+        }
+    }
+}
