@@ -24,7 +24,7 @@ pub struct Receipt {
 }
 
 // A refused call's receipt: its number and zeros.
-pub(crate) fn refusal_receipt(number: u64) -> Receipt
+pub fn refusal_receipt(number: u64) -> Receipt
     ensures { λ r. ⌜ r ≡ refusal number ⌝ }
 {
     Receipt {

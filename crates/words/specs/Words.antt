@@ -1,6 +1,6 @@
--- The order of the numbers: the pool's record, its ring's head last; the receipt.
+-- The order of the numbers: the pool's record, its ring's head last; the receipt. And what it is for numbers to stand in a row.
 use Prim.Native.Nat.{ℕ}
-use mathlib.Core.Bool.{Bool, cond}
+use mathlib.Core.Bool.{Bool, true, false, cond}
 use mathlib.Core.List.{List, [], _∷_}
 use lib.Dec.{eqb}
 use lib.ListN.{getD}
@@ -41,3 +41,9 @@ poolOf w = record {
   rates = record { trade = at w 13; protocol = at w 14; fund = at w 15; creator = at w 16; share = at w 17 };
   ring = record { used = eqb (at w 18) 1; index = at w 19; mark = at w 20 };
 }
+
+-- Whether a row begins with these numbers.
+unfoldable pub beginsWith : List ℕ → List ℕ → Bool
+beginsWith row [] = true
+beginsWith [] (x ∷ xs) = false
+beginsWith (y ∷ ys) (x ∷ xs) = cond (eqb x y) (beginsWith ys xs) false

@@ -6,7 +6,8 @@ use pool::receipt::Receipt;
 use pool::state::Pool;
 ghost use mathlib.Core.Path.{_≡_};
 ghost use mathlib.Core.Bool.{cond};
-ghost use Rattle.words.specs.Words.{poolWords, receiptWords, poolOf};
+ghost use lib.ListN.{drop};
+ghost use Rattle.words.specs.Words.{poolWords, receiptWords, poolOf, beginsWith};
 
 // A flag as a number.
 fn word(flag: bool) -> u64
@@ -103,4 +104,24 @@ pub fn pool_of(w: [u64; 21]) -> Pool
             mark: w[20],
         },
     }
+}
+
+// Whether these numbers stand in a row from a place on.
+pub fn stand_at(found: &[u64], row: &[u64], at: usize) -> bool
+    ensures { λ r. ⌜ r ≡ beginsWith (drop at (now (row .entry))) (now (found .entry)) ⌝ }
+{
+    let mut i = 0;
+    while i < found.len() {
+        if i >= row.len() {
+            return false;
+        }
+        if at >= row.len() - i {
+            return false;
+        }
+        if found[i] != row[at + i] {
+            return false;
+        }
+        i += 1;
+    }
+    true
 }

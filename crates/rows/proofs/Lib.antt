@@ -1,0 +1,4 @@
+pub mod ColumnRead
+pub mod ColumnWritten
+pub mod RowWritten
+pub mod RowRead

@@ -1,0 +1,3 @@
+// Rows of the day sheet: numbers in columns, read and written.
+pub mod column;
+pub mod row;

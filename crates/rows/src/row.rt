@@ -1,0 +1,77 @@
+// Rows of the day sheet: a number in 2 columns and five in 20 each.
+use crate::column::Reading;
+use crate::column::read_column;
+use crate::column::write_column;
+ghost use mathlib.Core.Path.{_≡_};
+ghost use Prim.Native.Nat.{_<_};
+ghost use lib.ListN.{length};
+ghost use Rattle.rows.specs.Row.{columnAt, readRow, writeRow};
+
+pub enum Row {
+    Unreadable,
+    Row {
+        kind: u64,
+        a: u64,
+        b: u64,
+        c: u64,
+        d: u64,
+        e: u64,
+    },
+}
+
+// The number in column i of the five.
+fn read_number(bytes: &[u8], i: usize) -> Reading
+    requires { ⌜ (length (now bytes) ≡ 102) × (i < 5) ⌝ }
+    ensures { λ r. ⌜ r ≡ columnAt (now (bytes .entry)) i ⌝ }
+{
+    let at = 2 + 20 * i;
+    read_column(&bytes[at..at + 20])
+}
+
+// The numbers of a row without its newline, whatever its bytes and however many.
+pub fn read_row(bytes: &[u8]) -> Row
+    ensures { λ r. ⌜ r ≡ readRow (now (bytes .entry)) ⌝ }
+{
+    if bytes.len() != 102 {
+        return Row::Unreadable;
+    }
+    let Reading::Reads(kind) = read_column(&bytes[..2]) else {
+        return Row::Unreadable;
+    };
+    let Reading::Reads(a) = read_number(bytes, 0) else {
+        return Row::Unreadable;
+    };
+    let Reading::Reads(b) = read_number(bytes, 1) else {
+        return Row::Unreadable;
+    };
+    let Reading::Reads(c) = read_number(bytes, 2) else {
+        return Row::Unreadable;
+    };
+    let Reading::Reads(d) = read_number(bytes, 3) else {
+        return Row::Unreadable;
+    };
+    let Reading::Reads(e) = read_number(bytes, 4) else {
+        return Row::Unreadable;
+    };
+    Row::Row {
+        kind,
+        a,
+        b,
+        c,
+        d,
+        e,
+    }
+}
+
+// A row with its newline.
+pub fn write_row(out: &mut [u8; 103], number: u64, a: u64, b: u64, c: u64, d: u64, e: u64)
+    ensures { λ r. ⌜ now (out .exit) ≡ writeRow number a b c d e ⌝ }
+{
+    write_column(out, 0, 2, number);
+    write_column(out, 2, 20, a);
+    write_column(out, 22, 20, b);
+    write_column(out, 42, 20, c);
+    write_column(out, 62, 20, d);
+    write_column(out, 82, 20, e);
+    out[102] = b'\n';
+}

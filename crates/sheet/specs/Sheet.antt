@@ -1,0 +1,123 @@
+-- Document 01, 'The day sheet': what each row does, and the row that it yields.
+use Prim.Native.Nat.{ℕ, _+_}
+use mathlib.Core.Bool.{Bool, cond, not, _&&_, _||_}
+use mathlib.Core.List.{List, [], _∷_, _++_}
+use lib.Dec.{eqb}
+use Rattle.refusal.specs.Refusal.{UnreadableRow}
+use Rattle.refusal.specs.Tests.{first}
+use Rattle.curve.specs.declared.calculator.Rates.{Rates}
+use Rattle.oracle.specs.Ring.{Entries}
+use Rattle.pool.specs.declared.receipt.Receipt.{Receipt}
+use Rattle.pool.specs.declared.state.Pool.{Pool}
+use Rattle.pool.specs.declared.state.After.{After}
+use Rattle.pool.specs.State.{net0, net1, Done, refusal}
+use Rattle.pool.specs.Opening.{rateTests, zeroRates, zeroPool, zeroEntries, opening}
+use Rattle.pool.specs.SwapBaseInput.{swapBaseInput}
+use Rattle.pool.specs.SwapBaseOutput.{swapBaseOutput}
+use Rattle.pool.specs.Liquidity.{deposit, withdraw}
+use Rattle.pool.specs.Settlement.{settlement}
+use Rattle.pool.specs.Status.{setStatus}
+use Rattle.rows.specs.declared.row.Row.{Row}
+use Rattle.rows.specs.declared.row.Row.the-variants.{Unreadable, Row as row}
+use Rattle.sheet.specs.declared.turn.Sheet.{Sheet as HeldSheet}
+use Rattle.sheet.specs.declared.turn.Turn.{Turn as HeldTurn}
+use Rattle.rows.specs.Row.{readRow, writeRow, rows}
+
+-- the rates for the next opening, the pool, and the ring's entries
+pub record Sheet : Type 0 where
+  pub rates : Rates
+  pub pool : Pool
+  pub entries : Entries
+
+-- before an accepted opening all is 0
+unfoldable pub emptySheet : Sheet
+emptySheet = record { rates = zeroRates; pool = zeroPool; entries = zeroEntries }
+
+-- the sheet that the code holds, with the entries that are lent beside it
+abbrev pub sheetOf : HeldSheet → Entries → Sheet
+sheetOf s entries = record { rates = s .rates; pool = s .pool; entries = entries }
+
+-- what a row does: the sheet after it, and the receipt
+pub record Turn : Type 0 where
+  pub sheet : Sheet
+  pub receipt : Receipt
+
+abbrev pub turnOf : HeldTurn → Entries → Turn
+turnOf t entries = record { sheet = sheetOf (t .sheet) entries; receipt = t .receipt }
+
+abbrev pub refusedRow : Sheet → ℕ → Turn
+refusedRow s n = record { sheet = s; receipt = refusal n }
+
+-- a call on the pool and ring
+abbrev pub called : Sheet → Done → Turn
+called s d = record { sheet = record { rates = s .rates; pool = d .after .pool; entries = d .entries }; receipt = d .after .receipt }
+
+abbrev pub calledBesides : Sheet → After → Turn
+calledBesides s a = record { sheet = record { rates = s .rates; pool = a .pool; entries = s .entries }; receipt = a .receipt }
+
+-- kind 0: rates, tested as in opening; refused ones are not kept
+unfoldable pub keepRates : Sheet → Rates → Turn
+keepRates s rates =
+    cond (eqb (first (rateTests rates)) 0)
+    (record { sheet = record { rates = rates; pool = s .pool; entries = s .entries }; receipt = refusal 0 })
+    (refusedRow s (first (rateTests rates)))
+
+-- kind 1: an accepted opening replaces pool and ring; a refused one keeps them
+unfoldable pub replaced : Sheet → Done → Turn
+replaced s d = cond (eqb (d .after .receipt .number) 0) (called s d) (refusedRow s (d .after .receipt .number))
+
+-- spare numbers are 0
+abbrev pub unlessSpare : Bool → Sheet → Turn → Turn
+unlessSpare spare s t = cond spare t (refusedRow s UnreadableRow)
+
+unfoldable pub perform : Sheet → Row → Turn
+perform s Unreadable = refusedRow s UnreadableRow
+perform s (row kind a b c d e) =
+    cond (eqb kind 0) (keepRates s (record { trade = a; protocol = b; fund = c; creator = d; share = e }))
+    (cond (eqb kind 1) (replaced s (opening a b c d e (s .rates)))
+    (cond (eqb kind 2) (unlessSpare (eqb e 0) s (called s (swapBaseInput (s .pool) (s .entries) a b c d)))
+    (cond (eqb kind 3) (unlessSpare (eqb e 0) s (called s (swapBaseOutput (s .pool) (s .entries) a b c d)))
+    (cond (eqb kind 4) (unlessSpare (eqb d 0 && eqb e 0) s (calledBesides s (deposit (s .pool) a b c)))
+    (cond (eqb kind 5) (unlessSpare (eqb e 0) s (calledBesides s (withdraw (s .pool) a b c d)))
+    (cond (eqb kind 6) (unlessSpare (eqb a 0 && eqb b 0 && eqb c 0 && eqb d 0 && eqb e 0) s (calledBesides s (settlement (s .pool) (s .pool .rates .share))))
+    (cond (eqb kind 7) (unlessSpare (eqb c 0 && eqb d 0 && eqb e 0) s (calledBesides s (setStatus (s .pool) a b)))
+    (refusedRow s UnreadableRow))))))))
+
+-- ---- the row that it yields: refusal number or 0, two amounts, nets, supply
+-- a swap's input and output; tokens 0 and 1 of a deposit, withdrawal or settlement; else 0
+abbrev pub isSwap : Receipt → Bool
+isSwap x = eqb (x .kind) 2 || eqb (x .kind) 3
+
+abbrev pub swapInput : Receipt → ℕ
+swapInput x = cond (eqb (x .direction) 0) (x .in0) (x .in1)
+
+abbrev pub swapOutput : Receipt → ℕ
+swapOutput x = cond (eqb (x .direction) 0) (x .out1) (x .out0)
+
+abbrev pub firstAmount : Receipt → ℕ
+firstAmount x =
+    cond (isSwap x) (swapInput x)
+    (cond (eqb (x .kind) 4) (x .in0)
+    (cond (eqb (x .kind) 5 || eqb (x .kind) 6) (x .out0)
+    0))
+
+abbrev pub secondAmount : Receipt → ℕ
+secondAmount x =
+    cond (isSwap x) (swapOutput x)
+    (cond (eqb (x .kind) 4) (x .in1)
+    (cond (eqb (x .kind) 5 || eqb (x .kind) 6) (x .out1)
+    0))
+
+unfoldable pub yielded : Turn → List ℕ
+yielded t =
+    writeRow (t .receipt .number) (firstAmount (t .receipt)) (secondAmount (t .receipt))
+    (net0 (t .sheet .pool)) (net1 (t .sheet .pool)) (t .sheet .pool .supply)
+
+-- ---- the whole sheet
+-- the rows in turn
+unfoldable pub run : Sheet → List (List ℕ) → List ℕ
+run s [] = []
+run s (r ∷ rs) = let t = perform s (readRow r) in yielded t ++ run (t .sheet) rs
+
+unfoldable pub daySheet : List ℕ → List ℕ
+daySheet input = run emptySheet (rows input)

@@ -1,0 +1,2 @@
+// The day sheet: rows in, rows out.
+pub mod turn;
