@@ -1,3 +1,4 @@
 pub mod SwapBooking
 pub mod SwapStages
 pub mod LiquidityLaws
+pub mod NetPrices

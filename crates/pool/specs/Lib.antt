@@ -4,6 +4,7 @@ pub mod Swap
 pub mod SwapBaseInput
 pub mod SwapBaseOutput
 pub mod Liquidity
+pub mod Prices
 pub mod Status
 pub mod Settlement
 pub mod Stages

@@ -3,6 +3,7 @@ pub mod creator_fee_share;
 pub mod deposit;
 pub mod liquidity;
 pub mod opening;
+pub mod prices;
 pub mod receipt;
 pub mod state;
 pub mod status;
