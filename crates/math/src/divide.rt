@@ -85,13 +85,23 @@ pub fn div_rem(n: U128, d: u64) -> Divided
     }
 }
 
-// The quotient and the remainder, whatever the quotient's size: the high half is divided first.
+// The quotient and the remainder, whatever the quotient's size: where it needs more than 64 bits the high half is divided first.
 pub fn div_rem_wide(n: U128, d: u64) -> DividedWide
     requires { ⌜ 0 < d ⌝ }
     ensures { λ r. ⌜ r ≡ dividedWide (value n) d ⌝ }
 {
     let high = n.high;
     let low = n.low;
+    if high < d {
+        let whole = div_rem(n, d);
+        return DividedWide {
+            quotient: U128 {
+                high: 0,
+                low: whole.quotient,
+            },
+            remainder: whole.remainder,
+        };
+    }
     let parts = div_rem(
         U128 {
             high: high % d,

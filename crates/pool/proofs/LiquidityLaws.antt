@@ -24,8 +24,8 @@ use Rattle.pool.specs.declared.liquidity.WorthAnswer.the-variants.{Of, R
 use Rattle.pool.specs.declared.state.Pool.{Pool}
 use Rattle.pool.specs.declared.state.After.{After}
 use Rattle.pool.specs.State.{net0, net1, refused, decided}
-use Rattle.pool.specs.Liquidity.{amountTests, tokenAmounts, worthOf}
-use Rattle.pool.specs.Stages.{isNone, someTokens}
+use Rattle.pool.specs.Liquidity.{amountTests, worthOf}
+use Rattle.pool.specs.Stages.{isNone, someTokens, tokenAmounts}
 
 -- ---- both tokens' parts, which are to be some
 -- an amount past u64 is not 0

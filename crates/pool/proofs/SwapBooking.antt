@@ -23,8 +23,8 @@ use Rattle.oracle.proofs.Steps.{left-by}
 use Rattle.pool.specs.declared.receipt.Receipt.{Receipt}
 use Rattle.pool.specs.declared.state.Pool.{Pool}
 use Rattle.pool.specs.State.{net0, net1, refused, withBooks, Done}
-use Rattle.pool.specs.Swap.{modelTests, netTests, swapNets, payTests, paidPool, bookedFees, bookTests, bookedPool, swapReceipt, swapped}
-use Rattle.pool.specs.Stages.{paid, bookedSwap}
+use Rattle.pool.specs.Swap.{modelTests, netTests, payTests, paidPool, bookedFees, bookTests, bookedPool, swapReceipt, swapped}
+use Rattle.pool.specs.Stages.{paid, bookedSwap, swapNets}
 
 -- ---- the nets, and then the model
 unfoldable pub thenModel : Pool → Nets → Nets

@@ -22,8 +22,8 @@ use Rattle.pool.specs.declared.state.Pool.{Pool}
 use Rattle.pool.specs.declared.swap.Decision.{Decision}
 use Rattle.pool.specs.State.{net0, net1, creatorRate, refused, Done}
 use Rattle.pool.specs.Opening.{limitTests}
-use Rattle.pool.specs.Swap.{netIn, netOut, modelTests, netTests, swapNets, bookTests, swapped, decidedSwap, doneOf}
-use Rattle.pool.specs.Stages.{refusedSwap, bookedSwap, Swappable}
+use Rattle.pool.specs.Swap.{netIn, netOut, modelTests, netTests, bookTests, swapped, decidedSwap, doneOf}
+use Rattle.pool.specs.Stages.{refusedSwap, bookedSwap, Swappable, swapNets}
 
 -- ---- what a stage's answer tells
 -- an answer that is no refusal is the accepted one, and all tests are passed

@@ -7,9 +7,7 @@ use Rattle.refusal.specs.Refusal.{RequireViolated, NotApproved, ZeroTradingToke
 use Rattle.refusal.specs.Tests.{Tests, _then_, past, outcome}
 use Rattle.curve.specs.declared.constant_product.RoundDirection.{RoundDirection}
 use Rattle.curve.specs.declared.constant_product.RoundDirection.the-variants.{Floor, Ceiling}
-use Rattle.curve.specs.declared.constant_product.TradingTokenResult.{TradingTokenResult}
-use Rattle.curve.specs.declared.constant_product.TradingTokenResult.the-variants as T
-use Rattle.curve.specs.ConstantProduct.{lpAmount, tokens}
+use Rattle.curve.specs.ConstantProduct.{lpAmount}
 use Rattle.accounting.specs.Counters.{counterTests}
 use Rattle.pool.specs.declared.liquidity.WorthAnswer.{WorthAnswer}
 use Rattle.pool.specs.declared.liquidity.WorthAnswer.the-variants.{Of, Refused}
@@ -28,13 +26,6 @@ amountTests amount0 amount1 supply =
     ∷ []
 
 -- ---- an LP amount's worth
--- both tokens' parts, which are to be some
-unfoldable pub tokenAmounts : RoundDirection → ℕ → ℕ → ℕ → ℕ → TradingTokenResult
-tokenAmounts direction lp supply net0 net1 =
-    outcome (amountTests (lpAmount direction lp supply net0) (lpAmount direction lp supply net1) supply)
-    T.Refused
-    (T.Amounts (tokens (lpAmount direction lp supply net0)) (tokens (lpAmount direction lp supply net1)))
-
 -- of a pool: 8, 7; none or an amount 0, 4; an amount past u64, 11; else the nets and the amounts
 unfoldable pub worthOf : RoundDirection → Pool → ℕ → WorthAnswer
 worthOf direction p lp =

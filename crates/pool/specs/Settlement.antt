@@ -64,10 +64,6 @@ settled shared0 shared1 p = record {
   receipt = settlementReceipt (p .fees .creator0 - shared0) (p .fees .creator1 - shared1) shared0 shared1;
 }
 
--- once the share is known to be in range
-unfoldable pub settlementLast : ℕ → ℕ → Pool → After
-settlementLast shared0 shared1 p = decided (paymentTests shared0 shared1 p) p (settled shared0 shared1 p)
-
 unfoldable pub settlementAt : ℕ → ℕ → Pool → ℕ → After
 settlementAt shared0 shared1 p share = decided (settlementTests shared0 shared1 p share) p (settled shared0 shared1 p)
 

@@ -4,7 +4,7 @@ use mathlib.Core.Bool.{Bool, cond}
 use mathlib.Core.List.{[], _∷_}
 use lib.Dec.{ltb, eqb}
 use Rattle.refusal.specs.Refusal.{ZeroTradingTokens, ExceededSlippage}
-use Rattle.refusal.specs.Tests.{_then_}
+use Rattle.refusal.specs.Tests.{_then_, outcome}
 use Rattle.curve.specs.Fees.{Million}
 use Rattle.curve.specs.Calculator.{onInput, noSplit, quoteTests, swapBaseInput as inputWithFees, swapBaseOutput as outputWithFees}
 use Rattle.accounting.specs.Counters.{counters0, counters1}
@@ -12,15 +12,22 @@ use Rattle.curve.specs.declared.answer.Answer.{Answer}
 use Rattle.curve.specs.declared.answer.Answer.the-variants.{Amount, Refused}
 use Rattle.curve.specs.declared.constant_product.TradingTokenResult.{TradingTokenResult}
 use Rattle.curve.specs.declared.constant_product.TradingTokenResult.the-variants as T
+use Rattle.curve.specs.declared.constant_product.RoundDirection.{RoundDirection}
+use Rattle.curve.specs.ConstantProduct.{lpAmount, tokens}
 use Rattle.curve.specs.Stages.{tokensOf}
 use Rattle.curve.specs.declared.calculator.SwapResult.{SwapResult}
 use Rattle.accounting.specs.declared.FeeCounters.{FeeCounters}
+use Rattle.accounting.specs.declared.Nets.{Nets}
+use Rattle.accounting.specs.declared.Nets.the-variants as N
 use Rattle.oracle.specs.declared.Update.the-variants as U
 use Rattle.oracle.specs.Ring.{Entries, Updated, price, updated}
 use Rattle.pool.specs.declared.state.Pool.{Pool}
 use Rattle.pool.specs.declared.swap.Decision.{Decision}
-use Rattle.pool.specs.State.{net0, net1, creatorRate, refused, Done}
-use Rattle.pool.specs.Swap.{netIn, netOut, payTests, paidPool, bookTests, swapReceipt, swapped, decidedSwap}
+use Rattle.pool.specs.declared.state.After.{After}
+use Rattle.pool.specs.State.{net0, net1, creatorRate, refused, decided, Done}
+use Rattle.pool.specs.Liquidity.{amountTests}
+use Rattle.pool.specs.Settlement.{paymentTests, settled}
+use Rattle.pool.specs.Swap.{netIn, netOut, netTests, payTests, paidPool, bookTests, swapReceipt, swapped, decidedSwap}
 use Rattle.pool.specs.SwapBaseInput.{minimumTests}
 
 -- a refused swap: nothing is to be written
@@ -85,3 +92,18 @@ isNone (Refused number) = eqb number ZeroTradingTokens
 -- 4 where one of them is none, else the first refusal or both amounts
 unfoldable pub someTokens : Answer → Answer → TradingTokenResult
 someTokens a b = cond (isNone a) (T.Refused ZeroTradingTokens) (cond (isNone b) (T.Refused ZeroTradingTokens) (tokensOf a b))
+
+-- both tokens' parts, which are to be some
+unfoldable pub tokenAmounts : RoundDirection → ℕ → ℕ → ℕ → ℕ → TradingTokenResult
+tokenAmounts direction lp supply net0 net1 =
+    outcome (amountTests (lpAmount direction lp supply net0) (lpAmount direction lp supply net1) supply)
+    T.Refused
+    (T.Amounts (tokens (lpAmount direction lp supply net0)) (tokens (lpAmount direction lp supply net1)))
+
+-- the nets that have passed a swap's tests up to the model
+unfoldable pub swapNets : Pool → Nets
+swapNets p = outcome (netTests p) N.Refused (N.Of (net0 p) (net1 p))
+
+-- a settlement whose share is in range
+unfoldable pub settlementLast : ℕ → ℕ → Pool → After
+settlementLast shared0 shared1 p = decided (paymentTests shared0 shared1 p) p (settled shared0 shared1 p)

@@ -7,8 +7,6 @@ use Rattle.refusal.specs.Refusal.{NotApproved, InvalidVault, Panic, InvalidFeeM
 use Rattle.refusal.specs.Tests.{Tests, _then_, past, outcome}
 use Rattle.curve.specs.declared.calculator.SwapResult.{SwapResult}
 use Rattle.accounting.specs.declared.FeeCounters.{FeeCounters}
-use Rattle.accounting.specs.declared.Nets.{Nets}
-use Rattle.accounting.specs.declared.Nets.the-variants.{Of, Refused}
 use Rattle.accounting.specs.Counters.{ofToken, counterTests}
 use Rattle.accounting.specs.Booking.{creatorToken, booked, bookingTests}
 use Rattle.oracle.specs.declared.Ring.{Ring}
@@ -45,10 +43,6 @@ modelTests net0 net1 model =
 -- counters' sums 8, vaults 7; a net of 0, 11; model 9
 unfoldable pub netTests : Pool → Tests
 netTests p = counterTests (p .vault0) (p .vault1) (p .fees) then modelTests (net0 p) (net1 p) (p .«fee_model»)
-
--- the nets as an answer
-unfoldable pub swapNets : Pool → Nets
-swapNets p = outcome (netTests p) Refused (Of (net0 p) (net1 p))
 
 -- vault 8; ring. Both prices are taken before the swap
 abbrev pub payTests : Bool → SwapResult → Pool → Entries → ℕ → Tests

@@ -13,7 +13,8 @@ use refusal::MATH_OVERFLOW;
 ghost use mathlib.Core.Path.{_≡_};
 ghost use Prim.Native.Nat.{_≤_};
 ghost use Rattle.refusal.specs.Tests.{first};
-ghost use Rattle.pool.specs.Settlement.{settlementReceipt, paymentTests, settlementLast, settlement};
+ghost use Rattle.pool.specs.Stages.{settlementLast};
+ghost use Rattle.pool.specs.Settlement.{settlementReceipt, paymentTests, settlement};
 
 // A settlement's receipt: the creators' amounts as paid out, the shared parts apart.
 fn settlement_receipt(out0: u64, out1: u64, shared0: u64, shared1: u64) -> Receipt

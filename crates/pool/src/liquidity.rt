@@ -10,8 +10,8 @@ use curve::constant_product::both;
 use curve::constant_product::lp_tokens_to_one_token;
 use refusal::ZERO_TRADING_TOKENS;
 ghost use mathlib.Core.Path.{_≡_};
-ghost use Rattle.pool.specs.Liquidity.{tokenAmounts, worthOf};
-ghost use Rattle.pool.specs.Stages.{isNone, someTokens};
+ghost use Rattle.pool.specs.Liquidity.{worthOf};
+ghost use Rattle.pool.specs.Stages.{isNone, someTokens, tokenAmounts};
 
 // The nets, and an LP amount's part of each.
 pub struct Worth {

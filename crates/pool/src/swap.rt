@@ -22,8 +22,8 @@ ghost use Prim.Native.Nat.{_+_, _≤_};
 ghost use Rattle.refusal.specs.Tests.{U64, first};
 ghost use Rattle.accounting.specs.Counters.{ofToken};
 ghost use Rattle.pool.specs.State.{creatorRate, net0 as netOf0, net1 as netOf1};
-ghost use Rattle.pool.specs.Swap.{closedTests, modelTests, swapNets, swapReceipt, paidPool, doneOf};
-ghost use Rattle.pool.specs.Stages.{refusedSwap, paid, bookedSwap};
+ghost use Rattle.pool.specs.Swap.{closedTests, modelTests, swapReceipt, paidPool, doneOf};
+ghost use Rattle.pool.specs.Stages.{refusedSwap, paid, bookedSwap, swapNets};
 
 // What a swap has decided, before anything is written: what it gives, and what the ring's entries are to get.
 pub struct Decision {

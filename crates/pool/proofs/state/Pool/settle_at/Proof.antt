@@ -5,8 +5,9 @@ use Prim.Native.Nat.{_+_, _-_, _≤_}
 use native.Mathlib.Omega.{arith}
 use Rattle.refusal.specs.Tests.{U64}
 use Rattle.refusal.proofs.Stops.{facts, first-passed, outcome-stop, outcome-go}
+use Rattle.pool.specs.Stages.{settlementLast}
 use Rattle.pool.specs.State.{withBooks}
-use Rattle.pool.specs.Settlement.{paymentTests, settledCounters, settlementLast}
+use Rattle.pool.specs.Settlement.{paymentTests, settledCounters}
 use borrow.Author.Needs.{needs}
 use Rattle.pool.proofs.state.Pool.settle_at.Statement.{statement}
 use Rattle.pool.proofs.state.Pool.settle_at.Tie as tie

@@ -6,7 +6,8 @@ use native.Mathlib.Omega.{arith}
 use Rattle.refusal.proofs.Stops.{turns, outcome-at, outcome-past}
 use Rattle.math.proofs.Rounding.{share-floor-le}
 use Rattle.curve.specs.Fees.{Million, feeDown}
-use Rattle.pool.specs.Settlement.{settlementTests, settlementLast, settlementAt, settlement}
+use Rattle.pool.specs.Stages.{settlementLast}
+use Rattle.pool.specs.Settlement.{settlementTests, settlementAt, settlement}
 use borrow.Author.Needs.{needs}
 use Rattle.pool.proofs.state.Pool.settle_creator_fee.Statement.{statement}
 use Rattle.pool.proofs.state.Pool.settle_creator_fee.Tie as tie

@@ -5,7 +5,8 @@ use native.Mathlib.Omega.{arith}
 use Rattle.refusal.proofs.Stops.{outcome-stop, outcome-go}
 use Rattle.accounting.specs.declared.Nets.{Nets}
 use Rattle.accounting.specs.declared.Nets.the-variants as N
-use Rattle.pool.specs.Swap.{modelTests, swapNets}
+use Rattle.pool.specs.Stages.{swapNets}
+use Rattle.pool.specs.Swap.{modelTests}
 use Rattle.pool.proofs.SwapBooking.{thenModel, nets-then-model}
 use borrow.Author.Needs.{needs}
 use Rattle.pool.proofs.state.Pool.swap_nets.Statement.{statement}
