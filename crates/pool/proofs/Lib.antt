@@ -2,3 +2,4 @@ pub mod SwapBooking
 pub mod SwapStages
 pub mod LiquidityLaws
 pub mod NetPrices
+pub mod Rooms

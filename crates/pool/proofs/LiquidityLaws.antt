@@ -3,7 +3,7 @@
 use mathlib.Core.Path.{_≡_, refl, sym, ap, subst, _∙_}
 use mathlib.Core.Bool.{Bool, true, false}
 use mathlib.Core.List.{[], _∷_}
-use Prim.Native.Nat.{ℕ, _≤_}
+use Prim.Native.Nat.{ℕ, _≤_, min}
 use native.Mathlib.Omega.{arith}
 use lib.Dec.{eqb}
 use borrow.Author.Tests.{ltb-true, ne-eqb}
@@ -86,6 +86,10 @@ module _ (direction : RoundDirection) (p : Pool) (lp : ℕ) where
   pub nets-within : {w : Worth} → Of w ≡ worthOf direction p lp → (w .net0 ≤ p .vault0) × (w .net1 ≤ p .vault1)
   unfolding worthOf Within
   nets-within {w} e = subst Within (sym e) (outcome-elim Within _ Refused _ (λ n. tt) (λ passed. (omega arith, omega arith)))
+
+-- and so do amounts capped at the nets
+pub capped-within : (paid net amount vault : ℕ) → paid ≡ min net amount → net ≤ vault → paid ≤ vault
+capped-within paid net amount vault e h = omega arith
 
 -- ---- a call on the worth
 -- two stages and then a third are one stage and then two

@@ -10,6 +10,7 @@ use accounting::SwapFees;
 use accounting::creator_token;
 use accounting::of_token;
 use curve::calculator::SwapResult;
+use lending::booked;
 use oracle::Ring;
 use oracle::Update;
 use refusal::ACCEPTED;
@@ -145,7 +146,7 @@ impl Pool {
         }
     }
 
-    // Vault 8; ring; else the swap, whose counters are booked by value. The nets are those before the swap.
+    // Vault 8; ring; else the swap, with the counters as booked. The nets are those before the swap.
     fn pay(
         self,
         entries: &[u64; 500],
@@ -203,7 +204,7 @@ impl Pool {
             fund: s.fund,
             creator: s.creator,
         };
-        match counters.book(zero_in, zero_fee, owed) {
+        match booked(counters, zero_in, zero_fee, owed) {
             Booking::Refused(number) => self.refuse_swap(number),
             Booking::Booked(fees) => self.pay(
                 entries,

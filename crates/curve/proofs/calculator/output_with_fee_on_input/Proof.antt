@@ -54,7 +54,7 @@ asking c = asks _ (start c .args .rates) _ _ _ _ (there c) _ _ refl (c .mul-div-
 asked :
     (c : tie.After-asked) → let a = start (c .before .before) .args in
     Told (c .asked .given .0 .0) (curveInput true (a .creator-rate) (a .net-in) (a .net-out) (a .amount))
-asked c = told-fits _ _ _ (asking (c .before .before)) (cc)
+asked c = told-fits _ _ _ (asking (c .before .before)) (c .asked .given .1)
 
 returns-3 : tie.Need-returns-3
 returns-3 c = asked-past _ _ _ _ _ _ (there (c .before)) (splits (c .before)) (told-past _ _ (asking (c .before)) (c .match .keys2))
@@ -69,7 +69,7 @@ enum-known-input c = search needs
 input :
     (c : tie.After-input) → let k = c .before .before .before .before in let a = start (k .before .before) .args in
     Told (c .input .given .0 .0) (preFee (k .asked .given .0 .0) (a .rates .trade + a .creator-rate))
-input c = told-fits _ _ _ (c .before .before .pre-fee .ensures) (cc)
+input c = told-fits _ _ _ (c .before .before .pre-fee .ensures) (c .input .given .1)
 
 returns-4 : tie.Need-returns-4
 unfolding withFees charged

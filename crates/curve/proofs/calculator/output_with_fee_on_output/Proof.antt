@@ -24,7 +24,7 @@ curve :
     (c : tie.After-curve) → let a = c .before .before .before .args in
     Told (c .curve .given .0 .0) (curveOutput false (a .creator-rate) (a .amount))
 unfolding curveOutput
-curve c = told-fits _ _ _ (c .before .before .pre-fee .ensures) (cc)
+curve c = told-fits _ _ _ (c .before .before .pre-fee .ensures) (c .curve .given .1)
 
 returns : tie.Need-returns
 unfolding curveOutput
@@ -55,7 +55,7 @@ asking c = asks _ (start c .args .rates) _ _ _ _ (there c) _ _ (curve (c .before
 asked :
     (c : tie.After-asked) → let a = start (c .before .before) .args in
     Told (c .asked .given .0 .0) (curveInput false (a .creator-rate) (a .net-in) (a .net-out) (a .amount))
-asked c = told-fits _ _ _ (asking (c .before .before)) (cc)
+asked c = told-fits _ _ _ (asking (c .before .before)) (c .asked .given .1)
 
 returns-3 : tie.Need-returns-3
 returns-3 c = asked-past _ _ _ _ _ _ (there (c .before)) refl (told-past _ _ (asking (c .before)) (c .match2 .keys2))
@@ -70,7 +70,7 @@ enum-known-input c = search needs
 input :
     (c : tie.After-input) → let k = c .before .before .before .before in
     Told (c .input .given .0 .0) (preFee (k .asked .given .0 .0) (start (k .before .before) .args .rates .trade))
-input c = told-fits _ _ _ (c .before .before .pre-fee2 .ensures) (cc)
+input c = told-fits _ _ _ (c .before .before .pre-fee2 .ensures) (c .input .given .1)
 
 returns-4 : tie.Need-returns-4
 unfolding withFees charged

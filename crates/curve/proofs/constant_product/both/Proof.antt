@@ -26,10 +26,10 @@ returns-2 c = cc
 
 -- the amounts that the two patterns bind
 amount-0 : (c : tie.After-amount-02) → c .before .before .args .amount-0 ≡ Amount (c .amount-02 .given .0 .0)
-amount-0 c = cc
+amount-0 c = c .amount-02 .given .1
 
 amount-1 : (c : tie.After-amount-12) → c .before .before .before .before .before .args .amount-1 ≡ Amount (c .amount-12 .given .0 .0)
-amount-1 c = cc
+amount-1 c = c .amount-12 .given .1
 
 returns-3 : tie.Need-returns-3
 returns-3 c = rw (amount-0 (c .before .before .before .before), amount-1 (c .before))

@@ -31,7 +31,7 @@ answer :
 answer c e = ap (partAnswer (c .before .args .direction)) (sym e ∙ c .mul-div .ensures) ∙ part-answer _ _ _ _
 
 divided : (c : tie.After-divided) → c .before .before .mul-div .result ≡ P.Fits (c .divided .given .0 .0)
-divided c = cc
+divided c = c .divided .given .1
 
 returns : tie.Need-returns
 unfolding partAnswer

@@ -2,7 +2,6 @@
 -- Assumes nothing.
 use mathlib.Core.Path.{_≡_, refl, sym, _∙_}
 use Prim.Native.Nat.{ℕ}
-use native.Mathlib.Omega.{arith}
 use Rattle.refusal.proofs.Stops.{first-stage, outcome-stop}
 use Rattle.curve.specs.declared.constant_product.RoundDirection.the-variants.{Ceiling}
 use Rattle.pool.specs.declared.liquidity.Worth.{Worth}
@@ -25,7 +24,7 @@ refuse-requires c κs = search needs
 
 returns : tie.Need-returns
 unfolding depositTests depositAt deposit
-returns c = c .refuse .ensures ∙ outcome-stop _ _ _ _ (first-stage _ _ _ (c .before .before .deposit-front .ensures) (omega arith)) (omega arith)
+returns c = c .refuse .ensures ∙ outcome-stop _ _ _ _ (first-stage _ _ _ (c .before .before .deposit-front .ensures) (c .before .if1 .taken)) (c .before .if1 .taken)
 
 worth-requires : tie.Need-worth-requires
 worth-requires c κs = search needs
@@ -57,14 +56,14 @@ unfolding depositFront depositTests depositAt deposit
 on-worth c e =
     let a = c .before .before .before .args in
     past-front Ceiling (a .self) (a .lp .0) _ _ _ (last (a .self) (a .lp .0) (a .maximum0 .0) (a .maximum1 .0)) _ refl
-    (c .before .before .deposit-front .ensures) (omega arith) refl (sym e ∙ c .worth .ensures)
+    (c .before .before .deposit-front .ensures) (c .before .if1 .left) refl (sym e ∙ c .worth .ensures)
 
 -- the worth, or the refusal, that the patterns bind
 refused-worth : (c : tie.After-number) → c .before .before .worth .result ≡ Refused (c .number .given .0 .0)
-refused-worth c = cc
+refused-worth c = c .number .given .1
 
 worth : (c : tie.After-worth2) → c .before .before .worth .result ≡ Of (c .worth2 .given .0 .0)
-worth c = cc
+worth c = c .worth2 .given .1
 
 returns-2 : tie.Need-returns-2
 unfolding onWorth

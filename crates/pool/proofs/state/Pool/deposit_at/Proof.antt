@@ -1,12 +1,13 @@
 -- `pool::state::Pool::deposit_at` meets its contract.
 -- Assumes nothing.
-use mathlib.Core.Path.{_≡_, refl, sym, _∙_}
+use mathlib.Core.Path.{refl, _∙_}
 use Prim.Native.Nat.{_+_, _≤_}
 use native.Mathlib.Omega.{arith}
 use Rattle.refusal.specs.Tests.{U64}
-use Rattle.refusal.proofs.Stops.{facts, first-passed, outcome-stop, outcome-go}
+use Rattle.refusal.proofs.Stops.{outcome-stop, outcome-go}
 use Rattle.pool.specs.State.{withBooks}
 use Rattle.pool.specs.Liquidity.{depositLast}
+use Rattle.pool.proofs.Rooms.{receipted, deposit-rooms}
 use borrow.Author.Needs.{needs}
 use Rattle.pool.proofs.state.Pool.deposit_at.Statement.{statement}
 use Rattle.pool.proofs.state.Pool.deposit_at.Tie as tie
@@ -18,35 +19,32 @@ refuse-requires : tie.Need-refuse-requires
 refuse-requires c κs = search needs
 
 returns : tie.Need-returns
-returns c = c .refuse .ensures ∙ outcome-stop _ _ _ _ (c .before .before .deposit-last .ensures) (omega arith)
+returns c = c .refuse .ensures ∙ outcome-stop _ _ _ _ (c .before .before .deposit-last .ensures) (c .before .if1 .taken)
 
 amounts-receipt-requires : tie.Need-amounts-receipt-requires
 amounts-receipt-requires c κs = search needs
 
 -- past the tests both vaults and the supply have room
 rooms :
-    (c : tie.After-deposit-last) → c .deposit-last .result ≡ 0
-    → let a = c .before .args in
+    (c : tie.Else1)
+    → let a = c .before .before .args in
     (a .self .vault0 + a .amount0 ≤ U64) × (a .self .vault1 + a .amount1 ≤ U64) × (a .self .supply + a .lp ≤ U64)
-unfolding depositLast
-rooms c z =
-    let h = first-passed _ refl (sym z ∙ c .deposit-last .ensures) in
-    (omega (arith, facts, h), omega (arith, facts, h), omega (arith, facts, h))
+rooms c = deposit-rooms _ _ _ _ _ _ _ (c .before .deposit-last .ensures) (c .if1 .left)
 
 add-t13 : tie.Need-add-t13
-add-t13 c = omega (arith, rooms (c .before .before) (omega arith))
+add-t13 c = omega (arith, rooms (c .before))
 
 add-t14 : tie.Need-add-t14
-add-t14 c = omega (arith, rooms (c .before .before) (omega arith))
+add-t14 c = omega (arith, rooms (c .before))
 
 add-t15 : tie.Need-add-t15
-add-t15 c = omega (arith, rooms (c .before .before) (omega arith))
+add-t15 c = omega (arith, rooms (c .before))
 
 returns-2 : tie.Need-returns-2
 unfolding withBooks depositLast
 returns-2 c =
-    rw (c .before .before .before .amounts-receipt .ensures)
-    (outcome-go _ _ _ _ refl (c .before .before .before .before .before .deposit-last .ensures) (omega arith))
+    let k = c .before .before .before in
+    receipted (k .amounts-receipt .ensures) (outcome-go _ _ _ _ refl (k .before .before .deposit-last .ensures) (k .before .if1 .left))
 
 pub deposit-at-spec : {M : Type 1} → statement M
 deposit-at-spec =

@@ -1,15 +1,19 @@
 -- `pool::state::Pool::open` meets its contract.
 -- Assumes nothing.
 use mathlib.Core.Path.{_≡_, refl, ap, _∙_}
-use Prim.Native.Nat.{_*_}
-use native.Mathlib.Omega.{arith}
+use mathlib.Core.Bool.{true}
+use Prim.Native.Nat.{ℕ, _*_}
+use lib.Dec.{eqb}
 use Rattle.math.specs.Root.{root}
-use Rattle.refusal.specs.Tests.{_then_}
-use Rattle.refusal.proofs.Stops.{outcome-stop, outcome-go}
+use Rattle.refusal.specs.Tests.{_then_, first}
+use Rattle.refusal.proofs.Stops.{numbered, outcome-stop, outcome-go}
+use Rattle.curve.specs.declared.calculator.Rates.{Rates}
 use Rattle.curve.specs.Calculator.{rateLimits}
-use Rattle.pool.specs.State.{done}
+use Rattle.pool.specs.State.{refused, amounts, done}
+use Rattle.pool.specs.declared.receipt.Receipt.{Receipt}
+use Rattle.pool.specs.declared.state.Pool.{Pool}
 use Rattle.pool.specs.declared.state.After.{After}
-use Rattle.pool.specs.Opening.{zeroEntries, openPool, openingFront, rateTests, openingTests, opening}
+use Rattle.pool.specs.Opening.{zeroEntries, zeroPool, openWith, openPool, openingFront, rateTests, openingTests, opening}
 use borrow.Author.Needs.{needs}
 use Rattle.pool.proofs.state.Pool.open.Statement.{statement}
 use Rattle.pool.proofs.state.Pool.open.Tie as tie
@@ -33,11 +37,33 @@ zero-requires c κs = search needs
 refuse-requires : tie.Need-refuse-requires
 refuse-requires c κs = search needs
 
+-- no test of an opening gives 0
+tests-numbered : (amount0 amount1 model enabled : ℕ) (rates : Rates) → numbered (openingTests amount0 amount1 model enabled rates) ≡ true
+unfolding openingTests openingFront rateTests rateLimits _then_
+tests-numbered amount0 amount1 model enabled rates = refl
+
+-- what an opening gives, on plain values: refused, and accepted
+module _ (amount0 amount1 model enabled openTime : ℕ) (rates : Rates) (number : ℕ) (found : number ≡ first (openingTests amount0 amount1 model enabled rates)) where
+  stopped : (number ≡ 0 → ⊥) → (zero : Pool) (after : After) → zero ≡ zeroPool → after ≡ refused zero number → done after zeroEntries ≡ opening amount0 amount1 model enabled openTime rates
+  unfolding opening
+  stopped h zero after z e =
+      ap (λ (a : After). done a zeroEntries) (e ∙ ap (λ (p : Pool). refused p number) z ∙ outcome-stop _ _ _ number found h)
+
+  opened :
+      number ≡ 0 → (supply : ℕ) (pool : Pool) (receipt : Receipt) → supply ≡ root (amount0 * amount1)
+      → pool ≡ openWith amount0 amount1 supply model (eqb enabled 1) openTime rates → receipt ≡ amounts 1 amount0 amount1 0 0 supply
+      → done (record { pool = pool; receipt = receipt }) zeroEntries ≡ opening amount0 amount1 model enabled openTime rates
+  unfolding opening openPool
+  opened h supply pool receipt s p r =
+      rw (p, r, s) (ap (λ (a : After). done a zeroEntries) (outcome-go _ _ _ number (tests-numbered amount0 amount1 model enabled rates) found h))
+
 returns : tie.Need-returns
-unfolding opening zeroEntries
+unfolding zeroEntries
 returns c =
-    rw (c .refuse .ensures, c .before .zero .ensures)
-    (ap (λ (a : After). done a zeroEntries) (outcome-stop _ _ _ _ (c .before .before .before .opening-number .ensures) (omega arith)))
+    let k = c .before .before .before in
+    let a = k .before .before .before .args in
+    stopped (a .amount0) (a .amount1) (a .model) (a .enabled) (a .open-time) (a .rates) (k .opening-number .result) (k .opening-number .ensures) (c .before .before .if1 .taken)
+    (c .before .zero .result) (c .refuse .result) (c .before .zero .ensures) (c .refuse .ensures)
 
 fresh-requires : tie.Need-fresh-requires
 fresh-requires c κs = search needs
@@ -46,11 +72,12 @@ amounts-receipt-requires : tie.Need-amounts-receipt-requires
 amounts-receipt-requires c κs = search needs
 
 returns-2 : tie.Need-returns-2
-unfolding opening zeroEntries openPool openingTests openingFront rateTests rateLimits _then_
+unfolding zeroEntries
 returns-2 c =
     let k = c .before .before .before in
-    rw (c .amounts-receipt .ensures, c .before .fresh .ensures, supply (k .before))
-    (ap (λ (a : After). done a zeroEntries) (outcome-go _ _ _ _ refl (k .opening-number .ensures) (omega arith)))
+    let a = k .before .before .before .args in
+    opened (a .amount0) (a .amount1) (a .model) (a .enabled) (a .open-time) (a .rates) (k .opening-number .result) (k .opening-number .ensures) (c .before .before .if1 .left)
+    (k .before .isqrt .result) (c .before .fresh .result) (c .amounts-receipt .result) (supply (k .before)) (c .before .fresh .ensures) (c .amounts-receipt .ensures)
 
 pub open-spec : {M : Type 1} → statement M
 open-spec =

@@ -7,7 +7,7 @@ use native.Mathlib.Omega.{arith}
 use lib.Dec.{ltb}
 use Rattle.refusal.specs.Refusal.{ExceededSlippage}
 use Rattle.refusal.specs.Tests.{Tests}
-use Rattle.refusal.proofs.Stops.{turns, first-at, first-none}
+use Rattle.refusal.proofs.Stops.{first-at, first-none}
 use Rattle.curve.specs.declared.calculator.SwapResult.{SwapResult}
 use Rattle.curve.specs.declared.calculator.SwapAnswer.the-variants.{Swapped}
 use Rattle.curve.specs.Calculator.{outputAnswer}
@@ -15,6 +15,7 @@ use Rattle.curve.specs.Stages.{outputStage}
 use Rattle.pool.specs.Stages.{outputQuoted}
 use Rattle.pool.proofs.SwapStages.{calculated, quote-refused, limit-refused, limit-passed, handed, output-answer, output-covered}
 use borrow.Author.Needs.{needs}
+use borrow.Author.Tests.{lt-ltb, le-ltb}
 use Rattle.pool.proofs.state.Pool.output_at.Statement.{statement}
 use Rattle.pool.proofs.state.Pool.output_at.Tie as tie
 
@@ -68,11 +69,14 @@ quoted c = sym (c .s .given .1) ∙ answer (c .before .before)
 abbrev limit : ℕ → SwapResult → Tests
 limit maximum s = (ltb maximum (s .input), ExceededSlippage) ∷ []
 
+slippage : ExceededSlippage ≡ 0 → ⊥
+slippage e = omega arith
+
 returns : tie.Need-returns
 unfolding outputQuoted outputStage
 returns c =
     let q = c .before .before .before .before in
-    limit-refused _ _ _ _ _ (limit _) _ _ _ (quoted q) _ _ (c .refuse-swap2 .ensures) (first-at 0 _ (omega (arith, turns))) (omega arith)
+    limit-refused _ _ _ _ _ (limit _) _ _ _ (quoted q) _ _ (c .refuse-swap2 .ensures) (first-at 0 _ (lt-ltb _ _ (c .before .if1 .taken))) slippage
 
 book-requires : tie.Need-book-requires
 book-requires c κs =
@@ -89,7 +93,7 @@ returns-3 : tie.Need-returns-3
 unfolding outputQuoted outputStage
 returns-3 c =
     let q = c .before .before .before .before in
-    limit-passed _ _ _ 3 _ (limit _) _ _ _ (quoted q) 0 _ _ refl (first-none _ (omega (arith, turns))) refl
+    limit-passed _ _ _ 3 _ (limit _) _ _ _ (quoted q) 0 _ _ refl (first-none _ (le-ltb _ _ (c .before .if1 .left), tt)) refl
     (q .before .before .before .before .before .before .is-creator-fee-on-input .ensures) (c .book .ensures)
 
 pub output-at-spec : {M : Type 1} → statement M

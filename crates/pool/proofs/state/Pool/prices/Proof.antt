@@ -26,10 +26,10 @@ rest : (c : tie.After-nets) {n : Nets} → c .nets .result ≡ n → thenPrices 
 rest c e = ap thenPrices (sym e ∙ c .nets .ensures) ∙ nets-then-prices _
 
 refused : (c : tie.After-number) → c .before .before .nets .result ≡ N.Refused (c .number .given .0 .0)
-refused c = cc
+refused c = c .number .given .1
 
 nets : (c : tie.After-net0) → c .before .before .nets .result ≡ N.Of (c .net0 .given .0 .0) (c .net0 .given .0 .1 .0)
-nets c = cc
+nets c = c .net0 .given .1
 
 returns : tie.Need-returns
 unfolding thenPrices

@@ -1,10 +1,11 @@
 -- `pool::state::Pool::withdraw_at` meets its contract.
 -- Assumes nothing.
-use mathlib.Core.Path.{refl, sym, _∙_}
+use mathlib.Core.Path.{refl, _∙_}
 use native.Mathlib.Omega.{arith}
-use Rattle.refusal.proofs.Stops.{facts, first-passed, outcome-stop, outcome-go}
+use Rattle.refusal.proofs.Stops.{outcome-stop, outcome-go}
 use Rattle.pool.specs.State.{withBooks}
 use Rattle.pool.specs.Liquidity.{withdrawLast}
+use Rattle.pool.proofs.Rooms.{receipted, withdraw-covered}
 use borrow.Author.Needs.{needs}
 use Rattle.pool.proofs.state.Pool.withdraw_at.Statement.{statement}
 use Rattle.pool.proofs.state.Pool.withdraw_at.Tie as tie
@@ -16,7 +17,7 @@ refuse-requires : tie.Need-refuse-requires
 refuse-requires c κs = search needs
 
 returns : tie.Need-returns
-returns c = c .refuse .ensures ∙ outcome-stop _ _ _ _ (c .before .before .withdraw-last .ensures) (omega arith)
+returns c = c .refuse .ensures ∙ outcome-stop _ _ _ _ (c .before .before .withdraw-last .ensures) (c .before .if1 .taken)
 
 amounts-receipt-requires : tie.Need-amounts-receipt-requires
 amounts-receipt-requires c κs = search needs
@@ -28,16 +29,13 @@ sub-t14 : tie.Need-sub-t14
 sub-t14 c = search needs
 
 sub-t15 : tie.Need-sub-t15
-unfolding withdrawLast
-sub-t15 c =
-    let h = first-passed _ refl (sym (c .before .if1 .left) ∙ c .before .before .withdraw-last .ensures) in
-    omega (arith, facts, h)
+sub-t15 c = omega (arith, withdraw-covered _ _ _ _ _ _ _ (c .before .before .withdraw-last .ensures) (c .before .if1 .left))
 
 returns-2 : tie.Need-returns-2
 unfolding withBooks withdrawLast
 returns-2 c =
-    rw (c .before .before .before .amounts-receipt .ensures)
-    (outcome-go _ _ _ _ refl (c .before .before .before .before .before .withdraw-last .ensures) (omega arith))
+    let k = c .before .before .before in
+    receipted (k .amounts-receipt .ensures) (outcome-go _ _ _ _ refl (k .before .before .withdraw-last .ensures) (k .before .if1 .left))
 
 pub withdraw-at-spec : {M : Type 1} → statement M
 withdraw-at-spec =

@@ -31,10 +31,10 @@ enum-known-amount0 c = search needs
 
 -- the nets, or the refusal, that the patterns bind
 refused-nets : (c : tie.After-number) → c .before .before .nets .result ≡ N.Refused (c .number .given .0 .0)
-refused-nets c = cc
+refused-nets c = c .number .given .1
 
 nets : (c : tie.After-net0) → c .before .before .nets .result ≡ N.Of (c .net0 .given .0 .0) (c .net0 .given .0 .1 .0)
-nets c = cc
+nets c = c .net0 .given .1
 
 -- what the nets come to
 on-nets :
@@ -45,10 +45,10 @@ on-nets c e = ap (netsWorth _ _ _) (sym e ∙ c .nets .ensures) ∙ worth-answer
 
 -- and the amounts of such nets, or their refusal
 refused-amounts : (c : tie.After-number2) → c .before .before .token-amounts .result ≡ T.Refused (c .number2 .given .0 .0)
-refused-amounts c = cc
+refused-amounts c = c .number2 .given .1
 
 amounts : (c : tie.After-amount0) → c .before .before .token-amounts .result ≡ T.Amounts (c .amount0 .given .0 .0) (c .amount0 .given .0 .1 .0)
-amounts c = cc
+amounts c = c .amount0 .given .1
 
 on-amounts :
     (c : tie.After-token-amounts) {t : TradingTokenResult} → c .token-amounts .result ≡ t
