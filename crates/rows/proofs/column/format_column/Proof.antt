@@ -5,7 +5,7 @@ use mathlib.Core.Path.{sym, _∙_}
 use native.Mathlib.Nat.{add-sub-cancel-left}
 use native.Mathlib.Omega.{arith}
 use borrow.Author.Tests.{leb-true}
-use lib.ListN.{length}
+use lib.ListN.{length, take, drop}
 use Rattle.rows.proofs.ColumnWritten.{filled-part, filled-place, no-part}
 use borrow.Author.Needs.{needs}
 use Rattle.rows.proofs.column.format_column.Statement.{statement}
@@ -34,7 +34,8 @@ returns : tie.Need-returns
 returns c =
     let args = c .before .before .before .before .before .before .before .args in
     let h = room (c .before) in (
-      rw (add-sub-cancel-left (args .at) 20, c .before .before .before .before .write-column .ensures .1) (filled-part (args .row .now) (args .at) (args .value) h),
+      (λ i. take (add-sub-cancel-left (args .at) 20 i) (drop (args .at) (c .before .before .before .before .write-column .ensures .1 i)))
+          ∙ filled-part (args .row .now) (args .at) (args .value) h,
       filled-place (args .row .now) (args .row .ptr) (args .at) h,
     )
 

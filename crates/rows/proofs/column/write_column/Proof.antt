@@ -1,7 +1,12 @@
 -- `rows::column::write_column` meets its contract: the row is too short, or the part that was lent comes back filled (`ColumnWritten.antt`).
 -- Assumes nothing.
+use Prim.Native.Nat.{_+_, _-_}
+use mathlib.Core.Path.{_≡_, _∙_}
+use mathlib.Core.List.{_++_}
 use native.Mathlib.Nat.{add-sub-cancel-left}
 use native.Mathlib.Omega.{arith}
+use lib.ListN.{length, take, drop}
+use Rattle.rows.specs.Column.{column}
 use Rattle.rows.proofs.ColumnWritten.{too-short, put-back}
 use borrow.Author.Needs.{needs}
 use Rattle.rows.proofs.column.write_column.Statement.{statement}
@@ -37,8 +42,16 @@ same-length c = search needs
 returns-3 : tie.Need-returns-3
 returns-3 c =
     let args = c .before .before .before .before .before .before .before .args in
-    rw (c .before .before .write-digits .ensures, add-sub-cancel-left (args .at) (args .width))
-    (put-back (args .row .now) (args .at) (args .width) (args .value) (omega arith))
+    let row = args .row .now in
+    let rest = drop (args .at) row in
+    let width = add-sub-cancel-left (args .at) (args .width) in
+    let filled : _ ≡ column (length (take (args .at + args .width - args .at) rest)) (args .value) = c .before .before .write-digits .ensures in
+    let back = put-back row (args .at) (args .width) (args .value) (omega arith) in (
+      back .0,
+      (λ i. take (args .at) row ++ (filled i ++ drop (args .at + args .width - args .at) rest))
+          ∙ (λ i. take (args .at) row ++ (column (length (take (width i) rest)) (args .value) ++ drop (width i) rest))
+          ∙ back .1,
+    )
 
 pub write-column-spec : {M : Type 1} → statement M
 write-column-spec =
