@@ -1,0 +1,105 @@
+-- What is written and what is left: a record that is no pool, a refusal, an accepted call.
+-- Assumes nothing.
+use Prim.Native.Nat.{ℕ}
+use mathlib.Core.Path.{_≡_, refl, sym, ap, _∙_}
+use mathlib.Core.Bool.{Bool, cond}
+use mathlib.Core.List.{List}
+use borrow.Author.Tests.{eq-eqb, ne-eqb}
+use Rattle.refusal.specs.Tests.{first}
+use Rattle.refusal.proofs.Stops.{outcome-stop, outcome-go}
+use Rattle.curve.specs.declared.calculator.Rates.{Rates}
+use Rattle.accounting.specs.declared.Nets.{Nets}
+use Rattle.accounting.specs.Counters.{netsAnswer}
+use Rattle.pool.specs.declared.state.Pool.{Pool}
+use Rattle.pool.specs.declared.state.After.{After}
+use Rattle.pool.specs.State.{Done, done}
+use Rattle.pool.specs.Opening.{opening}
+use Rattle.history.specs.declared.call.Call.{Call}
+use Rattle.history.specs.Run.{State, stateOf, next}
+use Rattle.history.proofs.Decisions.{numberOf}
+use Rattle.history.proofs.Refusals.{call-number-tells}
+use Rattle.words.specs.Words.{poolWords, poolOf, receiptWords}
+use Rattle.cp_swap.specs.Memory.{Memory, memory, untouched, stored, recordTests, calledOn, ratesOf, openedOn, netsMemory, storedNets, netsOn}
+
+-- what a call gave, a with the ring's entries e′, is written or not by its number
+module _ (p e r : List ℕ) (a : After) (e′ : List ℕ) where
+  choice : Bool → Memory
+  choice b = cond b (memory 0 (poolWords (a .pool)) e′ (receiptWords (a .receipt))) (memory (a .receipt .number) p e r)
+
+  stored-refused : (a .receipt .number ≡ 0 → ⊥) → memory (a .receipt .number) p e r ≡ stored p e r (done a e′)
+  unfolding stored untouched choice
+  stored-refused f = sym (ap choice (ne-eqb _ _ f))
+
+  stored-accepted :
+      {w s : List ℕ} → a .receipt .number ≡ 0 → w ≡ poolWords (a .pool) → s ≡ receiptWords (a .receipt)
+      → memory 0 w e′ s ≡ stored p e r (done a e′)
+  unfolding stored untouched choice
+  stored-accepted {w} {s} z record-written receipt-written =
+      ap (λ (w : List ℕ). memory 0 w e′ s) record-written
+      ∙ ap (memory 0 (poolWords (a .pool)) e′) receipt-written
+      ∙ sym (ap choice (eq-eqb _ _ z))
+
+-- ---- a call
+module _ (p e r : List ℕ) (c : Call) (n : ℕ) (read : n ≡ first (recordTests p)) where
+  -- the record is no pool
+  pub no-record : (n ≡ 0 → ⊥) → memory n p e r ≡ calledOn p e r c
+  unfolding calledOn untouched
+  no-record f = outcome-stop (recordTests p) (untouched p e r) _ n read f
+
+  -- it is one, q, and the call gave a and left the entries e′
+  module _ (z : n ≡ 0) {q : Pool} {a : After} {e′ : List ℕ} (pool : q ≡ poolOf p) (given : done a e′ ≡ next (stateOf q e) c) where
+    here : done a e′ ≡ next (stateOf (poolOf p) e) c
+    here = given ∙ ap (λ (q : Pool). next (stateOf q e) c) pool
+
+    of-call : stored p e r (done a e′) ≡ calledOn p e r c
+    unfolding calledOn recordTests
+    of-call = ap (stored p e r) here ∙ outcome-go (recordTests p) (untouched p e r) _ n refl read z
+
+    -- a refused call has left the entries as they were
+    pub call-refused : (a .receipt .number ≡ 0 → ⊥) → memory (a .receipt .number) p e′ r ≡ calledOn p e r c
+    call-refused f =
+        ap (λ (l : List ℕ). memory (a .receipt .number) p l r) kept
+        ∙ stored-refused p e r a e′ f
+        ∙ of-call
+      where
+        kept : e′ ≡ e
+        kept =
+            ap (λ (d : Done). d .entries) here
+            ∙ ap (λ (s : State). s .entries)
+            (call-number-tells (stateOf (poolOf p) e) c .where-refused (λ z. f (ap numberOf here ∙ z)) .unchanged)
+
+    pub call-accepted :
+        {w s : List ℕ} → a .receipt .number ≡ 0 → w ≡ poolWords (a .pool) → s ≡ receiptWords (a .receipt)
+        → memory 0 w e′ s ≡ calledOn p e r c
+    call-accepted z record-written receipt-written =
+        stored-accepted p e r a e′ z record-written receipt-written ∙ of-call
+
+-- ---- an opening, which gave a and the entries e′
+module _ (p e r : List ℕ) (amount0 amount1 model enabled openTime : ℕ) (w : List ℕ) {rates : Rates} {a : After} {e′ : List ℕ}
+    (of-rates : rates ≡ ratesOf w) (given : done a e′ ≡ opening amount0 amount1 model enabled openTime rates) where
+  of-opening : stored p e r (done a e′) ≡ openedOn p e r amount0 amount1 model enabled openTime w
+  unfolding openedOn
+  of-opening = ap (stored p e r) (given ∙ ap (opening amount0 amount1 model enabled openTime) of-rates)
+
+  pub opening-refused :
+      (a .receipt .number ≡ 0 → ⊥) → memory (a .receipt .number) p e r ≡ openedOn p e r amount0 amount1 model enabled openTime w
+  opening-refused f = stored-refused p e r a e′ f ∙ of-opening
+
+  pub opening-accepted :
+      {v s : List ℕ} → a .receipt .number ≡ 0 → v ≡ poolWords (a .pool) → s ≡ receiptWords (a .receipt)
+      → memory 0 v e′ s ≡ openedOn p e r amount0 amount1 model enabled openTime w
+  opening-accepted z record-written receipt-written = stored-accepted p e r a e′ z record-written receipt-written ∙ of-opening
+
+-- ---- the nets
+module _ (p nets : List ℕ) (n : ℕ) (read : n ≡ first (recordTests p)) where
+  pub nets-no-record : (n ≡ 0 → ⊥) → netsMemory n nets ≡ netsOn p nets
+  unfolding netsOn
+  nets-no-record f = outcome-stop (recordTests p) (λ k. netsMemory k nets) _ n read f
+
+  pub nets-stored :
+      {q : Pool} {answer known : Nets} → n ≡ 0 → q ≡ poolOf p → answer ≡ netsAnswer (q .vault0) (q .vault1) (q .fees) → answer ≡ known
+      → storedNets nets known ≡ netsOn p nets
+  unfolding netsOn recordTests
+  nets-stored z pool given is =
+      ap (storedNets nets) (sym is ∙ given ∙ ap (λ (q : Pool). netsAnswer (q .vault0) (q .vault1) (q .fees)) pool)
+      ∙ outcome-go (recordTests p) (λ k. netsMemory k nets) _ n refl read z

@@ -1,0 +1,198 @@
+// The pool for callers in C and Rust: each call over plain memory. The caller lends the pool's record, its ring's entries and a
+// receipt, separate pieces of memory, in the order of `words`.
+// A call returns 0 and writes what it gives, or it returns its refusal's number and writes nothing.
+mod calls;
+
+use crate::calls::call_on;
+use crate::calls::rates_of;
+use crate::calls::record_number;
+use accounting::Nets;
+use curve::constant_product::LpTokens;
+use curve::constant_product::TradingTokens;
+use history::call::Call;
+use pool::state::Pool;
+use refusal::ACCEPTED;
+use words::pool_of;
+use words::pool_words;
+use words::receipt_words;
+ghost use mathlib.Core.Path.{_≡_};
+ghost use Rattle.cp_swap.specs.Memory.{memory, calledOn, openedOn, netsMemory, netsOn};
+
+// A swap of an amount that goes in, for at least `minimum`. Direction 0 is token 0 for token 1.
+#[no_mangle]
+pub extern "C" fn cp_swap_base_input(
+    pool: &mut [u64; 21],
+    ring: &mut [u64; 500],
+    receipt: &mut [u64; 16],
+    direction: u64,
+    amount: u64,
+    minimum: u64,
+    clock: u64,
+) -> u64
+    ensures { λ r. ⌜ memory r (now (pool .exit)) (now (ring .exit)) (now (receipt .exit)) ≡ calledOn (now (pool .entry)) (now (ring .entry)) (now (receipt .entry)) (Call.SwapBaseInput direction amount minimum clock) ⌝ }
+{
+    call_on(
+        pool,
+        ring,
+        receipt,
+        Call::SwapBaseInput {
+            direction,
+            amount,
+            minimum,
+            clock,
+        },
+    )
+}
+
+// A swap for an amount that comes out, for at most `maximum`.
+#[no_mangle]
+pub extern "C" fn cp_swap_base_output(
+    pool: &mut [u64; 21],
+    ring: &mut [u64; 500],
+    receipt: &mut [u64; 16],
+    direction: u64,
+    amount: u64,
+    maximum: u64,
+    clock: u64,
+) -> u64
+    ensures { λ r. ⌜ memory r (now (pool .exit)) (now (ring .exit)) (now (receipt .exit)) ≡ calledOn (now (pool .entry)) (now (ring .entry)) (now (receipt .entry)) (Call.SwapBaseOutput direction amount maximum clock) ⌝ }
+{
+    call_on(
+        pool,
+        ring,
+        receipt,
+        Call::SwapBaseOutput {
+            direction,
+            amount,
+            maximum,
+            clock,
+        },
+    )
+}
+
+// Tokens of both kinds for new LP tokens.
+#[no_mangle]
+pub extern "C" fn cp_swap_deposit(
+    pool: &mut [u64; 21],
+    ring: &mut [u64; 500],
+    receipt: &mut [u64; 16],
+    lp: u64,
+    maximum0: u64,
+    maximum1: u64,
+) -> u64
+    ensures { λ r. ⌜ memory r (now (pool .exit)) (now (ring .exit)) (now (receipt .exit)) ≡ calledOn (now (pool .entry)) (now (ring .entry)) (now (receipt .entry)) (Call.Deposit (record { 0 = lp }) (record { 0 = maximum0 }) (record { 0 = maximum1 })) ⌝ }
+{
+    call_on(
+        pool,
+        ring,
+        receipt,
+        Call::Deposit {
+            lp: LpTokens(lp),
+            maximum0: TradingTokens(maximum0),
+            maximum1: TradingTokens(maximum1),
+        },
+    )
+}
+
+// LP tokens, of those that the caller owns, back for tokens of both kinds.
+#[no_mangle]
+pub extern "C" fn cp_swap_withdraw(
+    pool: &mut [u64; 21],
+    ring: &mut [u64; 500],
+    receipt: &mut [u64; 16],
+    lp: u64,
+    owned: u64,
+    minimum0: u64,
+    minimum1: u64,
+) -> u64
+    ensures { λ r. ⌜ memory r (now (pool .exit)) (now (ring .exit)) (now (receipt .exit)) ≡ calledOn (now (pool .entry)) (now (ring .entry)) (now (receipt .entry)) (Call.Withdraw (record { 0 = lp }) (record { 0 = owned }) (record { 0 = minimum0 }) (record { 0 = minimum1 })) ⌝ }
+{
+    call_on(
+        pool,
+        ring,
+        receipt,
+        Call::Withdraw {
+            lp: LpTokens(lp),
+            owned: LpTokens(owned),
+            minimum0: TradingTokens(minimum0),
+            minimum1: TradingTokens(minimum1),
+        },
+    )
+}
+
+// The creator counters are paid out, the shared part apart.
+#[no_mangle]
+pub extern "C" fn cp_swap_settle_creator_fee(
+    pool: &mut [u64; 21],
+    ring: &mut [u64; 500],
+    receipt: &mut [u64; 16],
+    share: u64,
+) -> u64
+    ensures { λ r. ⌜ memory r (now (pool .exit)) (now (ring .exit)) (now (receipt .exit)) ≡ calledOn (now (pool .entry)) (now (ring .entry)) (now (receipt .entry)) (Call.Settle share) ⌝ }
+{
+    call_on(pool, ring, receipt, Call::Settle { share })
+}
+
+// One bit of the status is set or cleared.
+#[no_mangle]
+pub extern "C" fn cp_swap_set_status(
+    pool: &mut [u64; 21],
+    ring: &mut [u64; 500],
+    receipt: &mut [u64; 16],
+    bit: u64,
+    flag: u64,
+) -> u64
+    ensures { λ r. ⌜ memory r (now (pool .exit)) (now (ring .exit)) (now (receipt .exit)) ≡ calledOn (now (pool .entry)) (now (ring .entry)) (now (receipt .entry)) (Call.SetStatus bit flag) ⌝ }
+{
+    call_on(pool, ring, receipt, Call::SetStatus { bit, flag })
+}
+
+// A new pool, whatever the memory held. The rates: trade, protocol, fund, creator, share.
+#[no_mangle]
+pub extern "C" fn cp_swap_open(
+    pool: &mut [u64; 21],
+    ring: &mut [u64; 500],
+    receipt: &mut [u64; 16],
+    amount0: u64,
+    amount1: u64,
+    model: u64,
+    enabled: u64,
+    open_time: u64,
+    rates: &[u64; 5],
+) -> u64
+    ensures { λ r. ⌜ memory r (now (pool .exit)) (now (ring .exit)) (now (receipt .exit)) ≡ openedOn (now (pool .entry)) (now (ring .entry)) (now (receipt .entry)) amount0 amount1 model enabled «open_time» (now (rates .entry)) ⌝ }
+{
+    let w = *rates;
+    let opened = Pool::open(amount0, amount1, model, enabled, open_time, rates_of(w));
+    let after = opened.after;
+    let number = after.receipt.number;
+    if number != ACCEPTED {
+        return number;
+    }
+    let entries = opened.entries;
+    let first = after.pool;
+    let shown = after.receipt;
+    *ring = entries;
+    *pool = pool_words(first);
+    *receipt = receipt_words(shown);
+    ACCEPTED
+}
+
+// The two nets of the pool, token 0's first.
+#[no_mangle]
+pub extern "C" fn cp_swap_nets(pool: &[u64; 21], nets: &mut [u64; 2]) -> u64
+    ensures { λ r. ⌜ netsMemory r (now (nets .exit)) ≡ netsOn (now (pool .entry)) (now (nets .entry)) ⌝ }
+{
+    let w = *pool;
+    let unreadable = record_number(w);
+    if unreadable != ACCEPTED {
+        return unreadable;
+    }
+    match pool_of(w).nets() {
+        Nets::Of(net0, net1) => {
+            *nets = [net0, net1];
+            ACCEPTED
+        }
+        Nets::Refused(number) => number,
+    }
+}
