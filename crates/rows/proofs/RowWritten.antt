@@ -1,12 +1,14 @@
 -- A row, written column after column.
-use Prim.Native.Nat.{ℕ, suc, _+_, _-_, _≤_}
+use Prim.Native.Nat.{ℕ, suc, _+_, _-_, _≤_, _<_}
 use mathlib.Core.Path.{_≡_, refl, sym, ap, _∙_}
+use mathlib.Core.Bool.{true, false}
 use mathlib.Core.List.{List, [], _∷_, _++_, append-assoc}
 use native.Mathlib.Omega.{arith}
-use lib.ListN.{length, getD, set, drop, length-append, length-drop, drop-of-length-le}
+use borrow.Author.Tests.{le-leb, lt-leb}
+use lib.ListN.{length, getD, set, take, drop, length-append, length-drop, drop-of-length-le}
 use lib.Seq.{drop-cons, drop-drop, drop-append-add, take-at, set-at}
-use Rattle.rows.specs.Column.{column, withColumn}
-use Rattle.rows.specs.Row.{newline, writeRow}
+use Rattle.rows.specs.Column.{column, hasRoom, withColumn}
+use Rattle.rows.specs.Row.{newline, writeRow, withRow}
 use Rattle.rows.proofs.ColumnWritten.{in-row, column-length}
 
 -- a row that is written up to a place, and as it was from there on
@@ -58,3 +60,19 @@ row-written row number a b c d e h h1 h2 h3 h4 h5 h6 =
     let b5 = next row _ 62 20 d (omega arith) b4 h5 in
     let b6 = next row _ 82 20 e (omega arith) b5 h6 in
     ended row _ 102 h b6 ∙ simp append-assoc
+
+-- ---- a row at a place of a longer text
+pub no-room : (text : List ℕ) (at : ℕ) (row : List ℕ) → length text < at + 103 → (false ≡ hasRoom text at 103) × (text ≡ withRow text at row)
+unfolding withRow
+no-room text at row h = let e = lt-leb (at + 103) (length text) h in (sym e, rw e)
+
+pub row-put-back :
+    (text : List ℕ) (at : ℕ) (row : List ℕ) → at + 103 ≤ length text
+    → (true ≡ hasRoom text at 103) × (take at text ++ (row ++ drop 103 (drop at text)) ≡ withRow text at row)
+unfolding withRow
+row-put-back text at row h = let e = le-leb (at + 103) (length text) h in (sym e, rw (e, drop-drop 103 at text))
+
+pub row-length : (number a b c d e : ℕ) → length (writeRow number a b c d e) ≡ 103
+unfolding writeRow
+row-length number a b c d e =
+    simp (length-append, column-length 2 number, column-length 20 a, column-length 20 b, column-length 20 c, column-length 20 d, column-length 20 e)

@@ -8,7 +8,7 @@ use Rattle.rows.specs.declared.column.Reading.{Reading}
 use Rattle.rows.specs.declared.column.Reading.the-variants as C
 use Rattle.rows.specs.declared.row.Row.{Row}
 use Rattle.rows.specs.declared.row.Row.the-variants as R
-use Rattle.rows.specs.Column.{readColumn, column}
+use Rattle.rows.specs.Column.{readColumn, column, hasRoom}
 
 abbrev pub newline : ℕ
 newline = 10
@@ -38,6 +38,10 @@ readRow bytes =
 -- ---- a row that is written: a number of the same widths each, and a newline
 unfoldable pub writeRow : ℕ → ℕ → ℕ → ℕ → ℕ → ℕ → List ℕ
 writeRow kind a b c d e = column 2 kind ++ (column 20 a ++ (column 20 b ++ (column 20 c ++ (column 20 d ++ (column 20 e ++ (newline ∷ []))))))
+
+-- a longer text with a row of 103 bytes at such a place; a text too short as it was
+unfoldable pub withRow : List ℕ → ℕ → List ℕ → List ℕ
+withRow text at row = cond (hasRoom text at 103) (take at text ++ (row ++ drop (at + 103) text)) text
 
 -- ---- the rows of an input: a row ends at a newline, or at the end of the input where bytes follow the last newline
 -- the bytes of the row that is being read, and those still to come

@@ -5,7 +5,10 @@ use crate::column::write_column;
 ghost use mathlib.Core.Path.{_≡_};
 ghost use Prim.Native.Nat.{_<_};
 ghost use lib.ListN.{length};
-ghost use Rattle.rows.specs.Row.{columnAt, readRow, writeRow};
+ghost use Rattle.rows.specs.Column.{hasRoom};
+ghost use Rattle.rows.specs.Row.{columnAt, readRow, writeRow, withRow};
+
+const ROW_BYTES: usize = 103;
 
 pub enum Row {
     Unreadable,
@@ -63,8 +66,9 @@ pub fn read_row(bytes: &[u8]) -> Row
     }
 }
 
-// A row with its newline.
-pub fn write_row(out: &mut [u8; 103], number: u64, a: u64, b: u64, c: u64, d: u64, e: u64)
+// A row with its newline, which fills the whole of what is lent.
+fn fill_row(out: &mut [u8], number: u64, a: u64, b: u64, c: u64, d: u64, e: u64)
+    requires { ⌜ length (now out) ≡ 103 ⌝ }
     ensures { λ r. ⌜ now (out .exit) ≡ writeRow number a b c d e ⌝ }
 {
     write_column(out, 0, 2, number);
@@ -74,4 +78,34 @@ pub fn write_row(out: &mut [u8; 103], number: u64, a: u64, b: u64, c: u64, d: u6
     write_column(out, 62, 20, d);
     write_column(out, 82, 20, e);
     out[102] = b'\n';
+}
+
+// A row with its newline.
+pub fn write_row(out: &mut [u8; 103], number: u64, a: u64, b: u64, c: u64, d: u64, e: u64)
+    ensures { λ r. ⌜ now (out .exit) ≡ writeRow number a b c d e ⌝ }
+{
+    fill_row(out, number, a, b, c, d, e);
+}
+
+// A row with its newline at a place of a longer text; in a text too short for it nothing is written.
+pub fn write_row_at(
+    text: &mut [u8],
+    at: usize,
+    number: u64,
+    a: u64,
+    b: u64,
+    c: u64,
+    d: u64,
+    e: u64,
+) -> bool
+    ensures { λ r. ⌜ (r ≡ hasRoom (now (text .entry)) at 103) × (now (text .exit) ≡ withRow (now (text .entry)) at (writeRow number a b c d e)) ⌝ }
+{
+    if text.len() < ROW_BYTES {
+        return false;
+    }
+    if text.len() - ROW_BYTES < at {
+        return false;
+    }
+    fill_row(&mut text[at..at + ROW_BYTES], number, a, b, c, d, e);
+    true
 }

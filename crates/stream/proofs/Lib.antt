@@ -1,0 +1,8 @@
+pub mod Lines
+pub mod Holding
+pub mod Answering
+pub mod Taking
+pub mod Leaving
+pub mod Bounds
+pub mod Alike
+pub mod Cuts
