@@ -1,17 +1,6 @@
 //! The original beside document 01: `oracle/run` says how to call it.
 
-mod compare;
-mod differences;
-mod driver;
-mod edges;
-mod generator;
-mod late;
-mod random;
-mod reasons;
-mod sample;
-mod shrink;
-mod verdict;
-
+use beside::{compare, differences, driver, edges, generator, late, sample};
 use std::io::{self, BufWriter, Write};
 use std::process::ExitCode;
 

@@ -26,15 +26,20 @@ pub struct Verdict {
 
 pub fn verdict(case: &Case) -> Verdict {
     let (document, original) = (document(case), original(case));
-    let (side, class) = match &original {
-        Outcome::Absent(reason) => (Side::DocumentAlone, format!("not in the Rust: {reason}")),
-        Outcome::Wide(_) => wide(case, &document),
-        Outcome::Answered { answer, booked, cause } if *answer == document => {
-            same(case, &document, booked, cause)
-        }
-        Outcome::Answered { answer, .. } => differs(case, answer, &document),
-    };
+    let (side, class) = classed(case, &document, &original);
     Verdict { side, class, document, original }
+}
+
+/// The side that rules, and the class.
+pub fn classed(case: &Case, document: &Answer, original: &Outcome) -> (Side, String) {
+    match original {
+        Outcome::Absent(reason) => (Side::DocumentAlone, format!("not in the Rust: {reason}")),
+        Outcome::Wide(_) => wide(case, document),
+        Outcome::Answered { answer, booked, cause } if answer == document => {
+            same(case, document, booked, cause)
+        }
+        Outcome::Answered { answer, .. } => differs(case, answer, document),
+    }
 }
 
 fn wide(case: &Case, document: &Answer) -> (Side, String) {

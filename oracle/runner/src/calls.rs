@@ -22,10 +22,12 @@ pub fn run(before: &State, call: &Call) -> Result<Run, &'static str> {
             swap_base_output::swap_base_output(context, swap.limit, swap.amount)
         }),
         Call::Deposit { lp, maximums: [m0, m1] } => {
-            caught(|| deposit::deposit(deposit_accounts(&memory), *lp, *m0, *m1)).map(|()| [0, 0])
+            let mut accounts = deposit_accounts(&memory);
+            caught(|| deposit::deposit(Context { accounts: &mut accounts }, *lp, *m0, *m1)).map(|()| [0, 0])
         }
         Call::Withdrawal { lp, owned, minimums: [m0, m1] } => {
-            caught(|| withdraw::withdraw(withdraw_accounts(&memory, *owned), *lp, *m0, *m1)).map(|()| [0, 0])
+            let mut accounts = withdraw_accounts(&memory, *owned);
+            caught(|| withdraw::withdraw(Context { accounts: &mut accounts }, *lp, *m0, *m1)).map(|()| [0, 0])
         }
         Call::Settlement { share } => settled(&memory, *share),
         Call::Status { bit, flag } => set_status(&memory, *bit, *flag)?,
@@ -61,7 +63,8 @@ fn swapped(
     handler: impl FnOnce(Context<swap_base_input::Swap>) -> anchor_lang::Result<()>,
 ) -> Settled {
     clock::set(swap.clock);
-    caught(|| handler(swap_accounts(memory, swap.direction))).map(|()| [0, 0])
+    let mut accounts = swap_accounts(memory, swap.direction);
+    caught(|| handler(Context { accounts: &mut accounts })).map(|()| [0, 0])
 }
 
 /// The Rust here only books; paying the creators is in an instruction that is not at hand.
@@ -87,70 +90,64 @@ fn set_status(memory: &Memory, bit: u64, flag: u64) -> Result<Settled, &'static 
 }
 
 /// Any direction but 0 and 1 names vault 0 twice, which is neither way through the pool.
-fn swap_accounts(memory: &Memory, direction: u64) -> Context<swap_base_input::Swap<'_>> {
+pub fn swap_accounts(memory: &Memory, direction: u64) -> swap_base_input::Swap<'_> {
     let (token_in, token_out) = match direction {
         0 => (0, 1),
         1 => (1, 0),
         _ => (0, 0),
     };
     let token_program = || Interface(address(&TOKEN_PROGRAM), PhantomData);
-    Context {
-        accounts: swap_base_input::Swap {
-            payer: Signer(address(&TOKEN_PROGRAM)),
-            authority: UncheckedAccount(address(&TOKEN_PROGRAM)),
-            amm_config: Box::new(Account(&memory.config)),
-            pool_state: memory.pool_account(),
-            input_token_account: wallet(0),
-            output_token_account: wallet(0),
-            input_vault: memory.vault(token_in),
-            output_vault: memory.vault(token_out),
-            input_token_program: token_program(),
-            output_token_program: token_program(),
-            input_token_mint: mint(),
-            output_token_mint: mint(),
-            observation_state: memory.ring_account(),
-        },
+    swap_base_input::Swap {
+        payer: Signer(address(&TOKEN_PROGRAM)),
+        authority: UncheckedAccount(address(&TOKEN_PROGRAM)),
+        amm_config: Box::new(Account(&memory.config)),
+        pool_state: memory.pool_account(),
+        input_token_account: wallet(0),
+        output_token_account: wallet(0),
+        input_vault: memory.vault(token_in),
+        output_vault: memory.vault(token_out),
+        input_token_program: token_program(),
+        output_token_program: token_program(),
+        input_token_mint: mint(),
+        output_token_mint: mint(),
+        observation_state: memory.ring_account(),
     }
 }
 
-fn deposit_accounts(memory: &Memory) -> Context<deposit::Deposit<'_>> {
-    Context {
-        accounts: deposit::Deposit {
-            owner: Signer(address(&TOKEN_PROGRAM)),
-            authority: UncheckedAccount(address(&TOKEN_PROGRAM)),
-            pool_state: memory.pool_account(),
-            owner_lp_token: wallet(0),
-            token_0_account: wallet(0),
-            token_1_account: wallet(0),
-            token_0_vault: memory.vault(0),
-            token_1_vault: memory.vault(1),
-            token_program: Program(address(&TOKEN_PROGRAM), PhantomData),
-            token_program_2022: Program(address(&TOKEN_PROGRAM), PhantomData),
-            vault_0_mint: mint(),
-            vault_1_mint: mint(),
-            lp_mint: mint(),
-        },
+pub fn deposit_accounts(memory: &Memory) -> deposit::Deposit<'_> {
+    deposit::Deposit {
+        owner: Signer(address(&TOKEN_PROGRAM)),
+        authority: UncheckedAccount(address(&TOKEN_PROGRAM)),
+        pool_state: memory.pool_account(),
+        owner_lp_token: wallet(0),
+        token_0_account: wallet(0),
+        token_1_account: wallet(0),
+        token_0_vault: memory.vault(0),
+        token_1_vault: memory.vault(1),
+        token_program: Program(address(&TOKEN_PROGRAM), PhantomData),
+        token_program_2022: Program(address(&TOKEN_PROGRAM), PhantomData),
+        vault_0_mint: mint(),
+        vault_1_mint: mint(),
+        lp_mint: mint(),
     }
 }
 
-fn withdraw_accounts(memory: &Memory, owned: u64) -> Context<withdraw::Withdraw<'_>> {
-    Context {
-        accounts: withdraw::Withdraw {
-            owner: Signer(address(&TOKEN_PROGRAM)),
-            authority: UncheckedAccount(address(&TOKEN_PROGRAM)),
-            pool_state: memory.pool_account(),
-            owner_lp_token: wallet(owned),
-            token_0_account: wallet(0),
-            token_1_account: wallet(0),
-            token_0_vault: memory.vault(0),
-            token_1_vault: memory.vault(1),
-            token_program: Program(address(&TOKEN_PROGRAM), PhantomData),
-            token_program_2022: Program(address(&TOKEN_PROGRAM), PhantomData),
-            vault_0_mint: mint(),
-            vault_1_mint: mint(),
-            lp_mint: mint(),
-            memo_program: UncheckedAccount(address(&TOKEN_PROGRAM)),
-        },
+pub fn withdraw_accounts(memory: &Memory, owned: u64) -> withdraw::Withdraw<'_> {
+    withdraw::Withdraw {
+        owner: Signer(address(&TOKEN_PROGRAM)),
+        authority: UncheckedAccount(address(&TOKEN_PROGRAM)),
+        pool_state: memory.pool_account(),
+        owner_lp_token: wallet(owned),
+        token_0_account: wallet(0),
+        token_1_account: wallet(0),
+        token_0_vault: memory.vault(0),
+        token_1_vault: memory.vault(1),
+        token_program: Program(address(&TOKEN_PROGRAM), PhantomData),
+        token_program_2022: Program(address(&TOKEN_PROGRAM), PhantomData),
+        vault_0_mint: mint(),
+        vault_1_mint: mint(),
+        lp_mint: mint(),
+        memo_program: UncheckedAccount(address(&TOKEN_PROGRAM)),
     }
 }
 

@@ -39,7 +39,16 @@ pub enum Cause {
     StandIn,
 }
 
-pub use calls::run;
+pub use calls::{deposit_accounts, run, swap_accounts, withdraw_accounts};
+pub use memory::{config, observation_state, pool_state, Memory, VAULT_KEYS};
+
+impl Run {
+    /// As the answer to a case of this kind.
+    pub fn outcome(self, kind: u64) -> Outcome {
+        let answer = call_answer(kind, self.number, &self.receipt, &self.state);
+        Outcome::Answered { answer, booked: self.booked, cause: self.cause }
+    }
+}
 
 /// What the original says to a case.
 pub enum Outcome {
@@ -63,8 +72,7 @@ pub fn answer(case: &Case) -> Outcome {
         Err(reason) => Outcome::Absent(reason),
         Ok(run) => {
             assert!(only_newest_written(&before.ring, &run.state.ring, run.state.pool.head.index));
-            let answer = call_answer(case.kind, run.number, &run.receipt, &run.state);
-            Outcome::Answered { answer, booked: run.booked, cause: run.cause }
+            run.outcome(case.kind)
         }
     }
 }

@@ -145,7 +145,7 @@ pub fn entry(from: Observation) -> Entry {
     [from.block_timestamp, high_0, low_0, high_1, low_1]
 }
 
-fn config(pool: &Pool) -> AmmConfig {
+pub fn config(pool: &Pool) -> AmmConfig {
     AmmConfig {
         trade_fee_rate: pool.rates.trade,
         protocol_fee_rate: pool.rates.protocol,

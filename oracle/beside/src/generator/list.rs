@@ -17,7 +17,7 @@ impl List {
     }
 
     pub fn next_case(&mut self, random: &mut Random) -> Case {
-        let case = if self.calls_left == 0 { opening(random) } else { self.call(random) };
+        let case = if self.calls_left == 0 { opening(random) } else { call(random, &self.state) };
         let call = case.call().expect("a list holds calls only");
         let after = model::run(&self.state, &call);
         if self.calls_left > 0 {
@@ -28,26 +28,28 @@ impl List {
         self.state = after.state;
         case
     }
-
-    fn call(&self, random: &mut Random) -> Case {
-        let kind = match random.below(20) {
-            0..6 => 2,
-            6..12 => 3,
-            12..15 => 4,
-            15..18 => 5,
-            18 => 6,
-            _ => 7,
-        };
-        // A closed pool would only refuse, so most status changes open it again.
-        if kind == 7 && !random.chance(4) {
-            let bit = random.below(3);
-            return Case::of_call(&self.state, kind, &[bit, 0]);
-        }
-        arguments::call(random, &self.state, kind)
-    }
 }
 
-fn opening(random: &mut Random) -> Case {
+/// A list's next call on this state.
+pub fn call(random: &mut Random, state: &State) -> Case {
+    let kind = match random.below(20) {
+        0..6 => 2,
+        6..12 => 3,
+        12..15 => 4,
+        15..18 => 5,
+        18 => 6,
+        _ => 7,
+    };
+    // A closed pool would only refuse, so most status changes open it again.
+    if kind == 7 && !random.chance(4) {
+        let bit = random.below(3);
+        return Case::of_call(state, kind, &[bit, 0]);
+    }
+    arguments::call(random, state, kind)
+}
+
+/// An opening that begins a list, or is refused.
+pub fn opening(random: &mut Random) -> Case {
     let amounts = match random.below(4) {
         0 => [random.edge(), random.edge()],
         1 => [1 + random.below(300), 1 + random.below(300)],

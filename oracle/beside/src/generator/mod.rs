@@ -2,8 +2,8 @@
 
 mod alone;
 mod arguments;
-mod hand;
-mod list;
+pub mod hand;
+pub mod list;
 pub mod small;
 
 use crate::random::Random;

@@ -117,9 +117,9 @@ impl<T> AccountLoader<'_, T> {
     }
 }
 
-/// What a handler is given.
-pub struct Context<T> {
-    pub accounts: T,
+/// What a handler is given; the accounts stay the caller's.
+pub struct Context<'a, T> {
+    pub accounts: &'a mut T,
 }
 
 /// Reading an account's bytes is left out by document 01.

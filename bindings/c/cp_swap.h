@@ -1,0 +1,141 @@
+/*
+ * A constant-product token pool over plain memory: libcp_swap.a, x86-64 Linux.
+ *
+ * The caller owns three arrays: the pool's record, the ring of its prices and a receipt. A call
+ * answers 0 when it is accepted; then the three hold what the call gives. Any other answer is the
+ * number of a refusal; then nothing at all was written, the receipt neither. No number that a call
+ * is given makes it trap, loop or touch other memory.
+ *
+ * The arrays must be of the lengths below, may not overlap, and are only used during the call. The
+ * library keeps nothing, allocates nothing and locks nothing: calls on different arrays may run at
+ * the same time.
+ */
+#ifndef CP_SWAP_H
+#define CP_SWAP_H
+
+#include <stdint.h>
+
+#ifdef __cplusplus
+extern "C" {
+#endif
+
+/* ---- the pool: 21 numbers; zeros until it is opened */
+enum {
+    CP_SWAP_VAULT_0, /* the whole balance of token 0, counters included */
+    CP_SWAP_VAULT_1,
+    CP_SWAP_PROTOCOL_0, /* six counters: fees in the vaults that aren't the holders' */
+    CP_SWAP_PROTOCOL_1,
+    CP_SWAP_FUND_0,
+    CP_SWAP_FUND_1,
+    CP_SWAP_CREATOR_0,
+    CP_SWAP_CREATOR_1,
+    CP_SWAP_SUPPLY,    /* LP tokens */
+    CP_SWAP_STATUS,    /* a set bit closes: 0 deposits, 1 withdrawals, 2 swaps */
+    CP_SWAP_OPEN_TIME, /* no swap before this clock */
+    CP_SWAP_FEE_MODEL, /* creator fee on: 0 the input, 1 token 0, 2 token 1 */
+    CP_SWAP_ENABLED,   /* 1 where creator fees are charged, else 0 */
+    CP_SWAP_TRADE_RATE, /* rates are in millionths */
+    CP_SWAP_PROTOCOL_RATE,
+    CP_SWAP_FUND_RATE,
+    CP_SWAP_CREATOR_RATE,
+    CP_SWAP_SHARE_RATE,
+    CP_SWAP_RING_USED, /* 0 or 1 */
+    CP_SWAP_RING_INDEX, /* the newest entry, 0 to 99 */
+    CP_SWAP_RING_MARK, /* the clock up to which the sums count */
+    CP_SWAP_POOL_LENGTH
+};
+
+/* ---- the ring: 100 entries of 5 numbers; sums modulo 2^128 of price times seconds */
+enum {
+    CP_SWAP_ENTRY_CLOCK,
+    CP_SWAP_ENTRY_SUM_0_HIGH,
+    CP_SWAP_ENTRY_SUM_0_LOW,
+    CP_SWAP_ENTRY_SUM_1_HIGH,
+    CP_SWAP_ENTRY_SUM_1_LOW,
+    CP_SWAP_ENTRY_LENGTH
+};
+enum { CP_SWAP_RING_ENTRIES = 100, CP_SWAP_RING_LENGTH = 500 };
+
+/* ---- a receipt: 16 numbers, 0 where one has no meaning */
+enum {
+    CP_SWAP_NUMBER, /* 0: receipts are only written of accepted calls */
+    CP_SWAP_KIND,   /* 1 opening, 2 and 3 swaps, 4 deposit, 5 withdrawal, 6 settlement, 7 status */
+    CP_SWAP_DIRECTION,
+    CP_SWAP_CLOCK,
+    CP_SWAP_IN_0, /* paid into the pool */
+    CP_SWAP_IN_1,
+    CP_SWAP_OUT_0, /* paid out of it */
+    CP_SWAP_OUT_1,
+    CP_SWAP_LP,
+    CP_SWAP_TRADE_FEE,
+    CP_SWAP_PROTOCOL_FEE, /* protocol and fund fee are parts of the trade fee */
+    CP_SWAP_FUND_FEE,
+    CP_SWAP_CREATOR_FEE,
+    CP_SWAP_CREATOR_FEE_TOKEN,
+    CP_SWAP_SHARED_0, /* of a settlement: what went to the protocol's counters */
+    CP_SWAP_SHARED_1,
+    CP_SWAP_RECEIPT_LENGTH
+};
+
+/* ---- refusals */
+enum {
+    CP_SWAP_ACCEPTED = 0,
+    CP_SWAP_NOT_APPROVED = 1,
+    CP_SWAP_EXCEEDED_SLIPPAGE = 2,
+    CP_SWAP_INVALID_INPUT = 3, /* also: a record whose enabled or ring-used is neither 0 nor 1 */
+    CP_SWAP_ZERO_TRADING_TOKENS = 4,
+    CP_SWAP_INVALID_VAULT = 5,
+    CP_SWAP_EMPTY_SUPPLY = 6,
+    CP_SWAP_INSUFFICIENT_VAULT = 7,
+    CP_SWAP_MATH_OVERFLOW = 8,
+    CP_SWAP_INVALID_FEE_MODEL = 9,
+    CP_SWAP_REQUIRE_VIOLATED = 10,
+    CP_SWAP_PANIC = 11, /* the original program would have panicked */
+    CP_SWAP_UNREADABLE_ROW = 12,
+    CP_SWAP_INIT_LP_AMOUNT_TOO_LESS = 13
+};
+
+/* ---- directions and status */
+enum { CP_SWAP_0_FOR_1 = 0, CP_SWAP_1_FOR_0 = 1 };
+enum { CP_SWAP_DEPOSITS = 0, CP_SWAP_WITHDRAWALS = 1, CP_SWAP_SWAPS = 2 };
+enum { CP_SWAP_OPEN = 0, CP_SWAP_CLOSED = 1 };
+
+/* ---- the calls */
+
+/* A new pool in place of what the memory holds. Rates: trade, protocol, fund, creator, share. */
+uint64_t cp_swap_open(uint64_t pool[21], uint64_t ring[500], uint64_t receipt[16],
+                      uint64_t amount_0, uint64_t amount_1, uint64_t fee_model, uint64_t enabled,
+                      uint64_t open_time, const uint64_t rates[5]);
+
+/* Pays `amount` in, and out what the curve gives for it, at least `minimum`. */
+uint64_t cp_swap_base_input(uint64_t pool[21], uint64_t ring[500], uint64_t receipt[16],
+                            uint64_t direction, uint64_t amount, uint64_t minimum, uint64_t clock);
+
+/* Pays `amount` out, and in what that costs, at most `maximum`. */
+uint64_t cp_swap_base_output(uint64_t pool[21], uint64_t ring[500], uint64_t receipt[16],
+                             uint64_t direction, uint64_t amount, uint64_t maximum, uint64_t clock);
+
+/* Issues `lp` LP tokens for both trading tokens. */
+uint64_t cp_swap_deposit(uint64_t pool[21], uint64_t ring[500], uint64_t receipt[16],
+                         uint64_t lp, uint64_t maximum_0, uint64_t maximum_1);
+
+/* Takes `lp` LP tokens back from an owner who holds `owned`. */
+uint64_t cp_swap_withdraw(uint64_t pool[21], uint64_t ring[500], uint64_t receipt[16],
+                          uint64_t lp, uint64_t owned, uint64_t minimum_0, uint64_t minimum_1);
+
+/* Pays the creators out; `share` millionths of their fees go to the protocol's counters. */
+uint64_t cp_swap_settle_creator_fee(uint64_t pool[21], uint64_t ring[500], uint64_t receipt[16],
+                                    uint64_t share);
+
+/* Opens (flag 0) or closes (flag 1) what the bit stands for. */
+uint64_t cp_swap_set_status(uint64_t pool[21], uint64_t ring[500], uint64_t receipt[16],
+                            uint64_t bit, uint64_t flag);
+
+/* The vaults less their counters: what the LP tokens are worth together. */
+uint64_t cp_swap_nets(const uint64_t pool[21], uint64_t nets[2]);
+
+#ifdef __cplusplus
+}
+#endif
+
+#endif

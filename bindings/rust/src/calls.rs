@@ -1,0 +1,141 @@
+//! The calls on a pool.
+
+use crate::plain;
+use crate::{Pool, Rates, Receipt, Refusal, Ring};
+
+/// Which token goes in.
+#[derive(Clone, Copy, Debug, PartialEq, Eq)]
+#[repr(u64)]
+pub enum Direction {
+    /// Token 0 in, token 1 out.
+    ZeroForOne = 0,
+    /// Token 1 in, token 0 out.
+    OneForZero = 1,
+}
+
+/// Which token the creators' fee is taken of.
+#[derive(Clone, Copy, Debug, Default, PartialEq, Eq)]
+#[repr(u64)]
+pub enum FeeModel {
+    /// Always the one that goes in.
+    #[default]
+    Input = 0,
+    /// Token 0, whichever goes in.
+    Token0 = 1,
+    /// Token 1, whichever goes in.
+    Token1 = 2,
+}
+
+/// What a status bit closes.
+#[derive(Clone, Copy, Debug, PartialEq, Eq)]
+#[repr(u64)]
+pub enum StatusBit {
+    /// Deposits.
+    Deposits = 0,
+    /// Withdrawals.
+    Withdrawals = 1,
+    /// Swaps.
+    Swaps = 2,
+}
+
+/// What a pool is opened with; the opener holds the whole LP supply.
+#[derive(Clone, Copy, Debug, Default, PartialEq, Eq)]
+pub struct Opening {
+    /// Of either token.
+    pub amounts: [u64; 2],
+    /// Where creators' fees are taken.
+    pub fee_model: FeeModel,
+    /// Whether creators' fees are charged.
+    pub enabled: bool,
+    /// No swap before this clock.
+    pub open_time: u64,
+    /// In millionths.
+    pub rates: Rates,
+}
+
+/// Accepted with a receipt, or refused with nothing changed.
+pub type Answer = Result<Receipt, Refusal>;
+
+impl Pool {
+    /// A new pool and ring in place of these.
+    pub fn open(&mut self, ring: &mut Ring, opening: &Opening) -> Answer {
+        let Opening { amounts, fee_model, enabled, open_time, rates } = *opening;
+        let terms = [fee_model as u64, enabled.into(), open_time];
+        let rates = [rates.trade, rates.protocol, rates.fund, rates.creator, rates.share];
+        self.call(ring, |pool, ring, receipt| plain::open(pool, ring, receipt, amounts, terms, &rates))
+    }
+
+    /// Pays `amount` in, and out what the curve gives for it, at least `minimum`.
+    pub fn swap_base_input(
+        &mut self,
+        ring: &mut Ring,
+        direction: Direction,
+        amount: u64,
+        minimum: u64,
+        clock: u64,
+    ) -> Answer {
+        self.call(ring, |pool, ring, receipt| {
+            plain::base_input(pool, ring, receipt, direction as u64, amount, minimum, clock)
+        })
+    }
+
+    /// Pays `amount` out, and in what that costs, at most `maximum`.
+    pub fn swap_base_output(
+        &mut self,
+        ring: &mut Ring,
+        direction: Direction,
+        amount: u64,
+        maximum: u64,
+        clock: u64,
+    ) -> Answer {
+        self.call(ring, |pool, ring, receipt| {
+            plain::base_output(pool, ring, receipt, direction as u64, amount, maximum, clock)
+        })
+    }
+
+    /// Issues `lp` LP tokens for at most these amounts of both tokens.
+    pub fn deposit(&mut self, ring: &mut Ring, lp: u64, maximums: [u64; 2]) -> Answer {
+        self.call(ring, |pool, ring, receipt| plain::deposit(pool, ring, receipt, lp, maximums))
+    }
+
+    /// Takes `lp` LP tokens back, of an owner who holds `owned`, for at least these amounts.
+    pub fn withdraw(&mut self, ring: &mut Ring, lp: u64, owned: u64, minimums: [u64; 2]) -> Answer {
+        self.call(ring, |pool, ring, receipt| plain::withdraw(pool, ring, receipt, lp, owned, minimums))
+    }
+
+    /// Pays the creators; `share` millionths of their fees go to the protocol's counters.
+    pub fn settle_creator_fee(&mut self, ring: &mut Ring, share: u64) -> Answer {
+        self.call(ring, |pool, ring, receipt| plain::settle_creator_fee(pool, ring, receipt, share))
+    }
+
+    /// Closes or opens the pool for some calls.
+    pub fn set_status(&mut self, ring: &mut Ring, bit: StatusBit, closed: bool) -> Answer {
+        self.call(ring, |pool, ring, receipt| {
+            plain::set_status(pool, ring, receipt, bit as u64, closed.into())
+        })
+    }
+
+    /// The vaults less their counters: what all LP tokens are worth together.
+    pub fn nets(&self) -> Result<[u64; 2], Refusal> {
+        let mut nets = [0; 2];
+        let number = plain::nets(&self.words(), &mut nets);
+        answered(number, nets)
+    }
+
+    fn call(
+        &mut self,
+        ring: &mut Ring,
+        call: impl FnOnce(&mut plain::PoolWords, &mut plain::RingWords, &mut plain::ReceiptWords) -> u64,
+    ) -> Answer {
+        let mut receipt = Receipt::default();
+        let number = call(self.words_mut(), ring.words_mut(), receipt.words_mut());
+        answered(number, receipt)
+    }
+}
+
+fn answered<T>(number: u64, given: T) -> Result<T, Refusal> {
+    match number {
+        0 => Ok(given),
+        _ => Err(Refusal::from_number(number).expect("the library answers with its table's numbers")),
+    }
+}

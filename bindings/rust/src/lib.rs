@@ -1,0 +1,41 @@
+//! A constant-product token pool: its swaps, deposits, withdrawals, settlements and its ring of
+//! prices. The calls are those of `libcp_swap.a`, whose every function is proved to meet its
+//! contract; this crate gives them names and types and adds no rule of its own.
+//!
+//! A call either is accepted, and gives a [`Receipt`], or it is refused with a [`Refusal`] and has
+//! changed nothing. No number makes a call panic.
+//!
+//! ```
+//! use cp_swap::{Direction, Opening, Pool, Rates, Refusal, Ring};
+//!
+//! let mut pool = Pool::default();
+//! let mut ring = Ring::default();
+//! let rates = Rates { trade: 2_500, protocol: 120_000, fund: 40_000, ..Rates::default() };
+//! pool.open(&mut ring, &Opening { amounts: [1_000_000, 4_000_000], rates, ..Opening::default() })?;
+//!
+//! let receipt = pool.swap_base_input(&mut ring, Direction::ZeroForOne, 10_000, 1, 100)?;
+//! assert_eq!(receipt.paid_out, [0, 39_505]);
+//! assert_eq!(pool.nets()?, [1_009_996, 3_960_495]);
+//!
+//! let before = pool;
+//! let refused = pool.swap_base_input(&mut ring, Direction::ZeroForOne, 10_000, 40_000, 101);
+//! assert_eq!(refused, Err(Refusal::ExceededSlippage));
+//! assert_eq!(pool, before);
+//! # Ok::<(), Refusal>(())
+//! ```
+
+#![deny(unsafe_code)]
+
+mod calls;
+mod receipt;
+mod record;
+mod refusal;
+mod ring;
+
+pub mod plain;
+
+pub use calls::{Direction, FeeModel, Opening, StatusBit};
+pub use receipt::Receipt;
+pub use record::{Pool, Rates, RingHead};
+pub use refusal::Refusal;
+pub use ring::{Entry, Ring, Sum, RING_ENTRIES};

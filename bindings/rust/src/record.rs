@@ -1,0 +1,75 @@
+//! The pool's record.
+
+/// Rates in millionths.
+#[repr(C)]
+#[derive(Clone, Copy, Debug, Default, PartialEq, Eq)]
+pub struct Rates {
+    /// The trade fee's part of an input.
+    pub trade: u64,
+    /// The protocol's part of the trade fee.
+    pub protocol: u64,
+    /// The fund's part of the trade fee.
+    pub fund: u64,
+    /// The creators' fee, where the pool charges it.
+    pub creator: u64,
+    /// The protocol's part of the creators' fees at a settlement.
+    pub share: u64,
+}
+
+/// The ring of prices without its entries.
+#[repr(C)]
+#[derive(Clone, Copy, Debug, Default, PartialEq, Eq)]
+pub struct RingHead {
+    /// 1 once a swap has used the ring, 0 before.
+    pub used: u64,
+    /// The newest entry.
+    pub index: u64,
+    /// The clock up to which the newest sums count.
+    pub mark: u64,
+}
+
+/// All that a pool is, but for its ring's entries: 21 numbers, plain to store and to compare.
+///
+/// A pool begins with [`Pool::open`] on any record, a default one as well. Records with any numbers
+/// may be built by hand: a call on them is accepted or refused by the same rules.
+#[repr(C)]
+#[derive(Clone, Copy, Debug, Default, PartialEq, Eq)]
+pub struct Pool {
+    /// The whole balance of either token, the counters below included.
+    pub vaults: [u64; 2],
+    /// The protocol's fees in the vaults.
+    pub protocol_fees: [u64; 2],
+    /// The fund's fees in the vaults.
+    pub fund_fees: [u64; 2],
+    /// The creators' fees in the vaults.
+    pub creator_fees: [u64; 2],
+    /// LP tokens.
+    pub supply: u64,
+    /// A set bit closes: 0 deposits, 1 withdrawals, 2 swaps.
+    pub status: u64,
+    /// No swap before this clock.
+    pub open_time: u64,
+    /// As [`FeeModel`](crate::FeeModel) numbers it.
+    pub fee_model: u64,
+    /// 1 where creators' fees are charged, else 0; any other number makes every call refuse.
+    pub enabled: u64,
+    /// The rates that the pool was opened with.
+    pub rates: Rates,
+    /// Where its ring stands.
+    pub ring: RingHead,
+}
+
+impl Pool {
+    /// The record as the library has it.
+    pub fn words(&self) -> [u64; 21] {
+        let mut copy = *self;
+        *copy.words_mut()
+    }
+
+    /// A record from its numbers, whatever they are.
+    pub fn from_words(words: [u64; 21]) -> Pool {
+        let mut pool = Pool::default();
+        *pool.words_mut() = words;
+        pool
+    }
+}

@@ -1,0 +1,92 @@
+//! Why a call was refused.
+
+use std::error::Error;
+use std::fmt;
+
+/// The refusals by the original's names; a refused call has changed nothing.
+#[derive(Clone, Copy, Debug, PartialEq, Eq, Hash)]
+#[repr(u64)]
+pub enum Refusal {
+    /// The pool is closed for this call, or not open yet.
+    NotApproved = 1,
+    /// An amount is beyond the caller's limit.
+    ExceededSlippage = 2,
+    /// A rate, flag, bit or share is out of range.
+    InvalidInput = 3,
+    /// An amount would be 0, or can't be reckoned.
+    ZeroTradingTokens = 4,
+    /// The direction is neither of the two.
+    InvalidVault = 5,
+    /// An opening with none of a token.
+    EmptySupply = 6,
+    /// The counters are above a vault, or a vault can't pay.
+    InsufficientVault = 7,
+    /// A sum or a vault would pass its width.
+    MathOverflow = 8,
+    /// The fee model is above 2.
+    InvalidFeeModel = 9,
+    /// A check that the original has no name for.
+    RequireViolated = 10,
+    /// The original would panic.
+    Panic = 11,
+    /// A row of a day sheet can't be read.
+    UnreadableRow = 12,
+    /// An opening whose LP supply would be below 101.
+    InitLpAmountTooLess = 13,
+}
+
+impl Refusal {
+    /// All of them, in the order of their numbers.
+    pub const ALL: [Refusal; 13] = [
+        Refusal::NotApproved,
+        Refusal::ExceededSlippage,
+        Refusal::InvalidInput,
+        Refusal::ZeroTradingTokens,
+        Refusal::InvalidVault,
+        Refusal::EmptySupply,
+        Refusal::InsufficientVault,
+        Refusal::MathOverflow,
+        Refusal::InvalidFeeModel,
+        Refusal::RequireViolated,
+        Refusal::Panic,
+        Refusal::UnreadableRow,
+        Refusal::InitLpAmountTooLess,
+    ];
+
+    /// The refusal's number, 1 to 13.
+    pub fn number(self) -> u64 {
+        self as u64
+    }
+
+    /// The refusal of this number, if it is one.
+    pub fn from_number(number: u64) -> Option<Refusal> {
+        Refusal::ALL.into_iter().find(|refusal| refusal.number() == number)
+    }
+
+    /// What to tell a reader.
+    pub fn message(self) -> &'static str {
+        match self {
+            Refusal::NotApproved => "the pool is closed for such calls, or not yet open",
+            Refusal::ExceededSlippage => "the price is beyond the caller's limit",
+            Refusal::InvalidInput => "a rate, flag, status bit or share is out of range",
+            Refusal::ZeroTradingTokens => "an amount of tokens would be none",
+            Refusal::InvalidVault => "the direction is neither 0 nor 1",
+            Refusal::EmptySupply => "an opening without tokens",
+            Refusal::InsufficientVault => "the fee counters are above the vault, or it cannot pay",
+            Refusal::MathOverflow => "a sum or a vault would pass its width",
+            Refusal::InvalidFeeModel => "there is no such fee model",
+            Refusal::RequireViolated => "an amount is 0, or LP tokens are not the owner's",
+            Refusal::Panic => "the original would panic: a net of 0, or a result past its width",
+            Refusal::UnreadableRow => "the row cannot be read",
+            Refusal::InitLpAmountTooLess => "the opening's supply is below 101",
+        }
+    }
+}
+
+impl fmt::Display for Refusal {
+    fn fmt(&self, f: &mut fmt::Formatter) -> fmt::Result {
+        write!(f, "{} (refusal {})", self.message(), self.number())
+    }
+}
+
+impl Error for Refusal {}

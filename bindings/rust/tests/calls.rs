@@ -1,0 +1,148 @@
+//! Each call once accepted and once refused, on the pool of the rules' worked example.
+
+use cp_swap::{Direction, FeeModel, Opening, Pool, Rates, Receipt, Refusal, Ring, StatusBit};
+
+const RATES: Rates = Rates { trade: 2_500, protocol: 120_000, fund: 40_000, creator: 0, share: 0 };
+const MOST: [u64; 2] = [u64::MAX; 2];
+
+fn opened_with(opening: Opening) -> (Pool, Ring) {
+    let (mut pool, mut ring) = (Pool::default(), Ring::default());
+    pool.open(&mut ring, &opening).expect("the opening is accepted");
+    (pool, ring)
+}
+
+fn opening() -> Opening {
+    Opening { amounts: [1_000_000, 4_000_000], rates: RATES, ..Opening::default() }
+}
+
+fn opened() -> (Pool, Ring) {
+    opened_with(opening())
+}
+
+/// Refused with this, and neither pool nor ring is changed.
+fn refuses(refusal: Refusal, call: impl FnOnce(&mut Pool, &mut Ring) -> Result<Receipt, Refusal>) {
+    let (mut pool, mut ring) = opened();
+    let before = (pool, ring.clone());
+    assert_eq!(call(&mut pool, &mut ring), Err(refusal));
+    assert_eq!((pool, ring), before);
+}
+
+#[test]
+fn an_opening_issues_the_root_of_the_product() {
+    let (mut pool, mut ring) = (Pool::default(), Ring::default());
+    let receipt = pool.open(&mut ring, &opening()).expect("the opening is accepted");
+    assert_eq!(
+        receipt,
+        Receipt { kind: 1, paid_in: [1_000_000, 4_000_000], lp: 2_000_000, ..Receipt::default() }
+    );
+    assert_eq!(pool.supply, 2_000_000);
+    assert_eq!(pool.rates, RATES);
+    assert_eq!(ring, Ring::default());
+}
+
+#[test]
+fn an_opening_too_small_is_refused() {
+    refuses(Refusal::InitLpAmountTooLess, |pool, ring| {
+        pool.open(ring, &Opening { amounts: [100, 100], ..opening() })
+    });
+    refuses(Refusal::EmptySupply, |pool, ring| pool.open(ring, &Opening { amounts: [0, 100], ..opening() }));
+    opened_with(Opening { amounts: [101, 101], ..opening() });
+}
+
+#[test]
+fn a_swap_by_input_books_its_fees() {
+    let (mut pool, mut ring) = opened();
+    let receipt = pool.swap_base_input(&mut ring, Direction::ZeroForOne, 10_000, 1, 100);
+    let expected = Receipt {
+        kind: 2,
+        clock: 100,
+        paid_in: [10_000, 0],
+        paid_out: [0, 39_505],
+        trade_fee: 25,
+        protocol_fee: 3,
+        fund_fee: 1,
+        ..Receipt::default()
+    };
+    assert_eq!(receipt, Ok(expected));
+    assert_eq!(pool.vaults, [1_010_000, 3_960_495]);
+    assert_eq!((pool.protocol_fees, pool.fund_fees), ([3, 0], [1, 0]));
+    assert_eq!(pool.nets(), Ok([1_009_996, 3_960_495]));
+    assert_eq!((pool.ring.used, pool.ring.mark, ring.entries[0].clock), (1, 100, 100));
+}
+
+#[test]
+fn a_swap_by_output_costs_as_much() {
+    let (mut pool, mut ring) = opened();
+    let receipt = pool.swap_base_output(&mut ring, Direction::ZeroForOne, 39_505, 10_000, 100);
+    assert_eq!(receipt.map(|receipt| receipt.paid_in), Ok([10_000, 0]));
+    refuses(Refusal::Panic, |pool, ring| {
+        pool.swap_base_output(ring, Direction::ZeroForOne, 4_000_000, u64::MAX, 100)
+    });
+}
+
+#[test]
+fn swaps_keep_the_callers_limit() {
+    refuses(Refusal::ExceededSlippage, |pool, ring| {
+        pool.swap_base_input(ring, Direction::ZeroForOne, 10_000, 39_506, 100)
+    });
+    refuses(Refusal::ExceededSlippage, |pool, ring| {
+        pool.swap_base_output(ring, Direction::ZeroForOne, 39_505, 9_999, 100)
+    });
+    refuses(Refusal::RequireViolated, |pool, ring| {
+        pool.swap_base_input(ring, Direction::OneForZero, 0, 0, 100)
+    });
+}
+
+#[test]
+fn creator_fees_are_taken_where_the_model_says() {
+    let rates = Rates { creator: 1_000, ..RATES };
+    let swapped = |fee_model| {
+        let (mut pool, mut ring) = opened_with(Opening { fee_model, enabled: true, rates, ..opening() });
+        pool.swap_base_input(&mut ring, Direction::ZeroForOne, 10_000, 1, 100).expect("the swap is accepted")
+    };
+    let on_input = swapped(FeeModel::Input);
+    assert_eq!((on_input.creator_fee, on_input.trade_fee, on_input.creator_fee_token), (10, 25, 0));
+    let on_token_1 = swapped(FeeModel::Token1);
+    assert_eq!(
+        (on_token_1.creator_fee, on_token_1.paid_out, on_token_1.creator_fee_token),
+        (40, [0, 39_465], 1)
+    );
+}
+
+#[test]
+fn deposits_and_withdrawals_round_for_the_pool() {
+    let (mut pool, mut ring) = opened();
+    let deposit = pool.deposit(&mut ring, 3, MOST).expect("the deposit is accepted");
+    assert_eq!((deposit.paid_in, deposit.lp, pool.supply), ([2, 6], 3, 2_000_003));
+    let withdrawal = pool.withdraw(&mut ring, 3, 3, [0, 0]).expect("the withdrawal is accepted");
+    assert_eq!((withdrawal.paid_out, pool.supply), ([1, 6], 2_000_000));
+    refuses(Refusal::ZeroTradingTokens, |pool, ring| pool.deposit(ring, 1, MOST));
+    refuses(Refusal::RequireViolated, |pool, ring| pool.withdraw(ring, 3, 2, [0, 0]));
+}
+
+#[test]
+fn a_settlement_pays_the_creators() {
+    let rates = Rates { creator: 1_000, ..RATES };
+    let (mut pool, mut ring) = opened_with(Opening { enabled: true, rates, ..opening() });
+    pool.swap_base_input(&mut ring, Direction::ZeroForOne, 10_000, 1, 100).expect("the swap is accepted");
+    assert_eq!(pool.creator_fees, [10, 0]);
+    let receipt = pool.settle_creator_fee(&mut ring, 300_000).expect("the settlement is accepted");
+    assert_eq!((receipt.paid_out, receipt.shared), ([7, 0], [3, 0]));
+    assert_eq!((pool.creator_fees, pool.protocol_fees[0]), ([0, 0], 6));
+    refuses(Refusal::InvalidInput, |pool, ring| pool.settle_creator_fee(ring, 1_000_001));
+}
+
+#[test]
+fn a_set_bit_closes() {
+    let (mut pool, mut ring) = opened();
+    for (bit, status) in [(StatusBit::Deposits, 1), (StatusBit::Withdrawals, 3), (StatusBit::Swaps, 7)] {
+        pool.set_status(&mut ring, bit, true).expect("the status is accepted");
+        assert_eq!(pool.status, status);
+    }
+    let swap = pool.swap_base_input(&mut ring, Direction::ZeroForOne, 10_000, 1, 100);
+    let deposit = pool.deposit(&mut ring, 3, MOST);
+    let withdrawal = pool.withdraw(&mut ring, 3, 3, [0, 0]);
+    assert_eq!([swap, deposit, withdrawal], [Err(Refusal::NotApproved); 3]);
+    pool.set_status(&mut ring, StatusBit::Swaps, false).expect("the status is accepted");
+    assert!(pool.swap_base_input(&mut ring, Direction::ZeroForOne, 10_000, 1, 100).is_ok());
+}

@@ -1,0 +1,85 @@
+//! The calls over plain numbers: what a refusal leaves, and the order of the numbers.
+
+use cp_swap::{plain, Entry, Pool, Rates, Refusal, Ring, RingHead, Sum};
+
+fn opened() -> ([u64; 21], [u64; 500]) {
+    let (mut pool, mut ring, mut receipt) = ([0; 21], [0; 500], [0; 16]);
+    let rates = [2_500, 120_000, 40_000, 0, 0];
+    let number = plain::open(&mut pool, &mut ring, &mut receipt, [1_000_000, 4_000_000], [0; 3], &rates);
+    assert_eq!(number, 0);
+    (pool, ring)
+}
+
+#[test]
+fn a_refused_call_writes_nothing() {
+    let (mut pool, mut ring) = opened();
+    let mut receipt = [7; 16];
+    let before = (pool, ring);
+    let wrong_direction = plain::base_input(&mut pool, &mut ring, &mut receipt, 2, 10_000, 0, 0);
+    let wrong_bit = plain::set_status(&mut pool, &mut ring, &mut receipt, 3, 0);
+    let wrong_model = plain::open(&mut pool, &mut ring, &mut receipt, [200, 200], [3, 0, 0], &[0; 5]);
+    assert_eq!([wrong_direction, wrong_bit, wrong_model], [5, 3, 9]);
+    assert_eq!((pool, ring, receipt), (before.0, before.1, [7; 16]));
+}
+
+#[test]
+fn a_record_with_a_wrong_flag_is_refused() {
+    for flag in [12, 18] {
+        let (mut pool, mut ring) = opened();
+        pool[flag] = 2;
+        let (mut receipt, mut nets) = ([7; 16], [7; 2]);
+        let before = pool;
+        assert_eq!(plain::base_input(&mut pool, &mut ring, &mut receipt, 0, 10_000, 0, 0), 3);
+        assert_eq!(plain::deposit(&mut pool, &mut ring, &mut receipt, 3, [9, 9]), 3);
+        assert_eq!(plain::nets(&pool, &mut nets), 3);
+        assert_eq!((pool, receipt, nets), (before, [7; 16], [7; 2]));
+    }
+}
+
+#[test]
+fn the_ring_moves_on_after_15_seconds() {
+    let (mut pool, mut ring) = opened();
+    let mut receipt = [0; 16];
+    for clock in [100, 114, 115] {
+        assert_eq!(plain::base_input(&mut pool, &mut ring, &mut receipt, 0, 10_000, 0, clock), 0);
+    }
+    assert_eq!(&pool[18..], [1, 1, 115]);
+    assert_eq!((ring[0], ring[5]), (100, 115));
+    assert!(ring[1] == 0 && ring[2] > 0 && ring[6] == 0 && ring[7] > ring[2]);
+}
+
+#[test]
+fn records_are_their_numbers_in_order() {
+    let pool = Pool {
+        vaults: [1, 2],
+        protocol_fees: [3, 4],
+        fund_fees: [5, 6],
+        creator_fees: [7, 8],
+        supply: 9,
+        status: 10,
+        open_time: 11,
+        fee_model: 12,
+        enabled: 13,
+        rates: Rates { trade: 14, protocol: 15, fund: 16, creator: 17, share: 18 },
+        ring: RingHead { used: 19, index: 20, mark: 21 },
+    };
+    let numbers: [u64; 21] = std::array::from_fn(|at| 1 + at as u64);
+    assert_eq!(pool.words(), numbers);
+    assert_eq!(Pool::from_words(numbers), pool);
+
+    let mut ring = Ring::default();
+    ring.entries[99] = Entry { clock: 1, sums: [Sum { high: 2, low: 3 }, Sum { high: 4, low: 5 }] };
+    assert_eq!(ring.words_mut()[495..], [1, 2, 3, 4, 5]);
+    assert_eq!(ring.entries[99].sums[1].value(), (4 << 64) + 5);
+}
+
+#[test]
+fn refusals_keep_their_numbers() {
+    for (at, refusal) in Refusal::ALL.into_iter().enumerate() {
+        assert_eq!(refusal.number(), 1 + at as u64);
+        assert_eq!(Refusal::from_number(refusal.number()), Some(refusal));
+    }
+    assert_eq!(Refusal::from_number(0), None);
+    assert_eq!(Refusal::from_number(14), None);
+    assert_eq!(Refusal::ExceededSlippage.to_string(), "the price is beyond the caller's limit (refusal 2)");
+}

@@ -1,0 +1,41 @@
+//! Lists that a pool lives long with: openings of some size, swaps and changes of LP that leave
+//! most of it, and a clock that goes on by seconds.
+
+use beside::random::Random;
+use record::{Case, State};
+
+pub fn opening(random: &mut Random) -> Case {
+    let amounts = [1_000_000 + (random.word() >> random.below(40)) / 4, 1_000_000 + random.sized() / 4];
+    let (trade, protocol) = (1 + random.below(20_000), random.below(500_000));
+    let (fund, creator, share) = (random.below(500_000), random.below(20_000), random.below(1_000_001));
+    let terms = [random.below(3), random.below(2), 0];
+    let rates = [trade, protocol, fund, creator, share];
+    Case { kind: 1, columns: [&amounts[..], &terms, &rates].concat() }
+}
+
+pub fn call(random: &mut Random, state: &State) -> Case {
+    let (kind, arguments) = match random.below(20) {
+        0..7 => (2, swap(random, state, 2)),
+        7..14 => (3, swap(random, state, 3)),
+        14..16 => (4, vec![some_of(random, state.pool.supply), u64::MAX, u64::MAX]),
+        16..18 => (5, vec![some_of(random, state.pool.supply), u64::MAX, 0, 0]),
+        18 => (6, vec![random.below(1_000_001)]),
+        _ => (7, vec![random.below(3), u64::from(random.chance(20))]),
+    };
+    Case::of_call(state, kind, &arguments)
+}
+
+/// Mostly with a wide limit, sometimes with one that is as likely too narrow.
+fn swap(random: &mut Random, state: &State, kind: u64) -> Vec<u64> {
+    let direction = random.below(2);
+    let (token, wide) = if kind == 2 { (direction, 0) } else { (1 - direction, u64::MAX) };
+    let amount = some_of(random, state.pool.vaults[token as usize]);
+    let limit = if random.chance(10) { random.near(amount) } else { wide };
+    let clock = state.pool.head.mark + random.below(40);
+    vec![direction, amount, limit, clock]
+}
+
+/// Up to a sixteenth.
+fn some_of(random: &mut Random, whole: u64) -> u64 {
+    random.up_to(whole / 16) >> random.below(8)
+}

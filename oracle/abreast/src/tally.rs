@@ -1,0 +1,120 @@
+//! What was counted, and the faults.
+
+use crate::sides::Fault;
+use beside::page;
+use beside::verdict::Side;
+use record::Case;
+use std::collections::BTreeMap;
+use std::time::Instant;
+
+/// Faults past this number are only counted.
+const KEPT_FAULTS: usize = 20;
+const PROGRESS_EVERY: u64 = 500_000;
+
+pub struct Class {
+    pub side: Side,
+    pub rows: &'static str,
+    pub count: u64,
+}
+
+pub struct Tally {
+    wanted: u64,
+    start: Instant,
+    pub calls: u64,
+    /// By kind and number.
+    pub answers: BTreeMap<(u64, u64), u64>,
+    pub classes: BTreeMap<String, Class>,
+    /// Calls on records with a flag that is neither 0 nor 1.
+    pub wrong_flags: u64,
+    pub lists: u64,
+    pub list_calls: u64,
+    /// Lists that went once around the ring.
+    pub ring_rounds: u64,
+    pub points: u64,
+    pub pairs: u64,
+    pub port_faults: u64,
+    pub original_faults: u64,
+    pub claim_faults: u64,
+    pub faults: Vec<Fault>,
+}
+
+impl Tally {
+    pub fn of(wanted: u64) -> Tally {
+        Tally {
+            wanted,
+            start: Instant::now(),
+            calls: 0,
+            answers: BTreeMap::new(),
+            classes: BTreeMap::new(),
+            wrong_flags: 0,
+            lists: 0,
+            list_calls: 0,
+            ring_rounds: 0,
+            points: 0,
+            pairs: 0,
+            port_faults: 0,
+            original_faults: 0,
+            claim_faults: 0,
+            faults: Vec::new(),
+        }
+    }
+
+    pub fn is_clean(&self) -> bool {
+        self.port_faults + self.original_faults + self.claim_faults == 0
+    }
+
+    pub fn seconds(&self) -> f64 {
+        self.start.elapsed().as_secs_f64()
+    }
+
+    pub fn answered(&mut self, kind: u64, number: u64) {
+        *self.answers.entry((kind, number)).or_default() += 1;
+        self.calls += 1;
+        if self.calls.is_multiple_of(PROGRESS_EVERY) {
+            self.print_progress();
+        }
+    }
+
+    fn print_progress(&self) {
+        let seconds = self.seconds();
+        let left = self.wanted.saturating_sub(self.calls) as f64 * seconds / self.calls as f64;
+        let faults = self.port_faults + self.original_faults + self.claim_faults;
+        eprintln!(
+            "{} of {} calls, {faults} faults, {seconds:.0} s, {left:.0} s to go",
+            self.calls, self.wanted
+        );
+    }
+
+    /// A class that the page has no row for is a fault.
+    pub fn classed(&mut self, side: Side, name: String, case: &Case) {
+        match page::rows(&name) {
+            Some(rows) => {
+                self.classes.entry(name).or_insert(Class { side, rows, count: 0 }).count += 1;
+            }
+            None => self.original_fault(format!("no row for: {name}"), case),
+        }
+    }
+
+    pub fn port_fault(&mut self, what: String, case: &Case) {
+        self.port_faults += 1;
+        self.keep(format!("the port beside document 01: {what}"), case);
+    }
+
+    pub fn original_fault(&mut self, what: String, case: &Case) {
+        self.original_faults += 1;
+        self.keep(format!("the original beside document 01: {what}"), case);
+    }
+
+    pub fn claim_fault(&mut self, what: &str, case: &Case) {
+        self.claim_faults += 1;
+        self.keep(format!("demand 3: {what}"), case);
+    }
+
+    fn keep(&mut self, what: String, case: &Case) {
+        if self.faults.len() < KEPT_FAULTS {
+            let fault = Fault { what, case: case.line() };
+            eprintln!("{}\n  {}", fault.what, fault.case);
+            self.faults.push(fault);
+        }
+    }
+}

@@ -1,0 +1,15 @@
+//! The original beside document 01: cases without end, what the two say to them, and how that is
+//! classed.
+
+pub mod compare;
+pub mod differences;
+pub mod driver;
+pub mod edges;
+pub mod generator;
+pub mod late;
+pub mod page;
+pub mod random;
+mod reasons;
+pub mod sample;
+mod shrink;
+pub mod verdict;

@@ -1,0 +1,55 @@
+//! Which rows of docs/DIFFERENCES.md a class belongs to.
+
+/// The end of a call's class, and the rows.
+const ROWS: [(&str, &str); 45] = [
+    ("rates past the limits", "B1 to B8"),
+    ("not in the Rust: opening", "B9, B10"),
+    ("not in the Rust: a status bit above 2", "B11"),
+    ("not in the Rust: a status flag above 1", "B12"),
+    ("not in the Rust: a status above 255", "E1"),
+    ("not in the Rust: a fee model above 255", "E1"),
+    ("not in the Rust: a ring index above 65,535", "E1"),
+    ("settle_creator_fee: the vaults pay the creators", "B13"),
+    ("settle_creator_fee: a vault can't pay the creators", "B14"),
+    ("swap_base_input 8: vault past u64", "B15"),
+    ("swap_base_input 8: vault past u64, after booking", "A1"),
+    ("swap_base_output 8: vault past u64", "B16"),
+    ("swap_base_output 8: vault past u64, after booking", "A2"),
+    ("deposit 8: vault past u64", "B17"),
+    ("deposit 8: vault past u64, after booking", "A7"),
+    ("swap_base_input 8: check, after booking", "A3"),
+    ("swap_base_output 8: check, after booking", "A4"),
+    ("settle_creator_fee 8: check, after booking", "A8"),
+    ("11: panic at pool.rs:251", "C1"),
+    ("11: panic at pool.rs:252", "C1"),
+    ("11: panic at constant_product.rs:41", "C2"),
+    ("11: panic at constant_product.rs:40", "C3"),
+    ("11: panic at constant_product.rs:39", "C4"),
+    ("swap_base_output 11: panic at swap_base_output.rs:79", "C5, C6"),
+    ("swap_base_output 11: panic at calculator.rs:178", "C7"),
+    ("swap_base_output 11: panic at calculator.rs:185", "C7"),
+    ("11: panic at pool.rs:367", "C8"),
+    ("11: panic at pool.rs:368", "C8"),
+    ("11: panic at pool.rs:372", "C8"),
+    ("11: panic at pool.rs:382", "C8"),
+    ("11: panic at pool.rs:383", "C8"),
+    ("11: panic at pool.rs:386", "C8"),
+    ("11: panic at pool.rs:368, after booking", "A5, C8"),
+    ("11: panic at pool.rs:372, after booking", "A6, C8"),
+    ("11: panic at pool.rs:383, after booking", "A5, C8"),
+    ("11: panic at pool.rs:386, after booking", "A6, C8"),
+    ("deposit 11: panic at deposit.rs:114", "C9"),
+    ("deposit 11: panic at deposit.rs:124", "C9"),
+    ("deposit 11: panic at deposit.rs:192, after booking", "C10"),
+    ("withdraw 11: panic at withdraw.rs:127", "C11"),
+    ("withdraw 11: panic at withdraw.rs:138", "C11"),
+    ("withdraw 11: panic at withdraw.rs:178", "C12"),
+    ("11: panic at oracle.rs:88, after booking", "C13"),
+    ("11: panic at oracle.rs:94, after booking", "C13"),
+    ("swap_base_output: input far above u64", "D1"),
+];
+
+/// None where the page has no such row.
+pub fn rows(class: &str) -> Option<&'static str> {
+    ROWS.iter().find(|(end, _)| class.ends_with(end)).map(|(_, rows)| *rows)
+}

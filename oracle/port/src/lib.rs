@@ -1,0 +1,60 @@
+//! The port: libcp_swap.a over memory that a state is laid out in.
+
+use cp_swap::plain;
+use record::{Call, Opening, Receipt, State};
+
+/// A pool, its ring and a receipt, as the library has them.
+#[derive(Clone, PartialEq, Eq)]
+pub struct Port {
+    pub pool: plain::PoolWords,
+    pub ring: plain::RingWords,
+    pub receipt: plain::ReceiptWords,
+}
+
+impl Port {
+    /// The receipt is filled with this number, so that every write to it shows.
+    pub fn of(state: &State, fill: u64) -> Port {
+        let ring = state.ring.as_flattened().try_into().expect("a ring has 500 numbers");
+        Port { pool: state.pool.words(), ring, receipt: [fill; 16] }
+    }
+
+    /// What the memory holds after an accepted call that gives this.
+    pub fn with(state: &State, receipt: &Receipt) -> Port {
+        let mut port = Port::of(state, 0);
+        port.receipt[1..].copy_from_slice(&receipt.words());
+        port
+    }
+
+    /// The call's number, 0 where it was accepted.
+    pub fn call(&mut self, call: &Call) -> u64 {
+        let Port { pool, ring, receipt } = self;
+        match *call {
+            Call::Opening(opening) => open(self, &opening),
+            Call::SwapByInput(s) => {
+                plain::base_input(pool, ring, receipt, s.direction, s.amount, s.limit, s.clock)
+            }
+            Call::SwapByOutput(s) => {
+                plain::base_output(pool, ring, receipt, s.direction, s.amount, s.limit, s.clock)
+            }
+            Call::Deposit { lp, maximums } => plain::deposit(pool, ring, receipt, lp, maximums),
+            Call::Withdrawal { lp, owned, minimums } => {
+                plain::withdraw(pool, ring, receipt, lp, owned, minimums)
+            }
+            Call::Settlement { share } => plain::settle_creator_fee(pool, ring, receipt, share),
+            Call::Status { bit, flag } => plain::set_status(pool, ring, receipt, bit, flag),
+        }
+    }
+
+    /// The two nets, or the refusal's number and what the caller's numbers were.
+    pub fn nets(&self, fill: u64) -> (u64, [u64; 2]) {
+        let mut nets = [fill; 2];
+        (plain::nets(&self.pool, &mut nets), nets)
+    }
+}
+
+fn open(port: &mut Port, opening: &Opening) -> u64 {
+    let Opening { amounts, fee_model, enabled, open_time, rates } = *opening;
+    let rates = [rates.trade, rates.protocol, rates.fund, rates.creator, rates.share];
+    let terms = [fee_model, enabled, open_time];
+    plain::open(&mut port.pool, &mut port.ring, &mut port.receipt, amounts, terms, &rates)
+}
