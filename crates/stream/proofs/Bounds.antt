@@ -4,7 +4,7 @@ use mathlib.Core.Path.{_≡_, refl, ap}
 use mathlib.Core.Bool.{Bool, true, false, cond}
 use mathlib.Core.List.{List, [], _∷_, _++_}
 use native.Mathlib.Omega.{arith}
-use borrow.Author.Tests.{le-ltb, ltb-false}
+use borrow.Author.Tests.{ltb-false}
 use lib.Dec.{eqb, ltb}
 use lib.ListN.{length, drop, length-append}
 use Rattle.oracle.specs.Ring.{Entries}
@@ -13,7 +13,9 @@ use Rattle.sheet.specs.Sheet.{Sheet, Turn, perform, yielded}
 use Rattle.stream.specs.declared.feed.Fed.{Fed as HeldFed}
 use Rattle.stream.specs.declared.feed.Ended.{Ended as HeldEnded}
 use Rattle.stream.specs.Pieces.{Fed, kept, nothingTaken, ahead, feed, Finished, over, Left, leftBy, leftOf, LeftAtEnd, leftAtEnd, endOf}
+use Rattle.stream.specs.HoweverCut.{GoesOn}
 use Rattle.stream.proofs.Answering.{yielded-length}
+use Rattle.stream.proofs.Cuts.{goes-on}
 
 -- no more than the piece has, no more than there is room for
 abbrev Within : ℕ → ℕ → Fed → Type 0
@@ -42,22 +44,12 @@ within room s begun (byte ∷ bytes) =
     go false true e f g row other = row (ltb-false room 103 e)
     go false false e f g row other = other
 
--- with room for a row, a piece that is not empty goes on
-pub goes-on : (room : ℕ) (s : Sheet) (begun bytes : List ℕ) → 103 ≤ room → 0 < length bytes → 0 < feed room s begun bytes .taken
-unfolding feed
-goes-on room s begun [] h k = absurd (omega arith)
-goes-on room s begun (byte ∷ bytes) h k = rw (le-ltb room 103 h) (go (eqb byte newline) _ _)
-  where
-    go : (ends : Bool) (f g : Fed) → 0 < cond ends (ahead (yielded (perform s (readRow begun))) f) (ahead [] g) .taken
-    go true f g = omega arith
-    go false f g = omega arith
-
 -- ---- of what the code answers
 pub fed-within :
     (f : HeldFed) (entries : Entries) (held output′ output : List ℕ) (s : Sheet) (begun input : List ℕ)
     → leftOf f entries held output′ ≡ leftBy output (feed (length output) s begun input)
     → (f .taken ≤ length input) × (f .written ≤ length output) × (103 ≤ length output → 0 < length input → 0 < f .taken)
-unfolding leftBy
+unfolding leftBy GoesOn
 fed-within f entries held output′ output s begun input e =
     let taken : f .taken ≡ feed (length output) s begun input .taken = ap (λ (l : Left). l .taken) e in
     let written : f .written ≡ length (feed (length output) s begun input .written) = ap (λ (l : Left). l .written) e in

@@ -1,13 +1,12 @@
 -- Document 01, 'The day sheet', where the input comes in pieces and the output has only so much room: what one piece does.
 use Prim.Native.Nat.{ℕ, _+_, _-_}
-use mathlib.Core.Bool.{Bool, cond}
+use mathlib.Core.Bool.{cond}
 use mathlib.Core.List.{List, [], _∷_, _++_}
 use lib.Dec.{eqb, ltb}
 use lib.ListN.{length, replicate, take, drop}
 use Rattle.rows.specs.Row.{newline, readRow}
 use Rattle.sheet.specs.Sheet.{Sheet, sheetOf, perform, yielded}
 use Rattle.oracle.specs.Ring.{Entries}
-use Rattle.sheet.specs.declared.turn.Sheet.{Sheet as HeldSheet}
 use Rattle.stream.specs.declared.feed.Fed.{Fed as HeldFed}
 use Rattle.stream.specs.declared.feed.Ended.{Ended as HeldEnded}
 
