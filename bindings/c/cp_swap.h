@@ -4,7 +4,8 @@
  * The caller owns three arrays: the pool's record, the ring of its prices and a receipt. A call
  * answers 0 when it is accepted; then the three hold what the call gives. Any other answer is the
  * number of a refusal; then nothing at all was written, the receipt neither. No number that a call
- * is given makes it trap, loop or touch other memory.
+ * is given makes it trap, loop or touch other memory. A day sheet does the calls that its rows ask
+ * for, and answers in rows: see the end of this file.
  *
  * The arrays must be of the lengths below, may not overlap, and are only used during the call. The
  * library keeps nothing, allocates nothing and locks nothing: calls on different arrays may run at
@@ -13,6 +14,7 @@
 #ifndef CP_SWAP_H
 #define CP_SWAP_H
 
+#include <stddef.h>
 #include <stdint.h>
 
 #ifdef __cplusplus
@@ -77,6 +79,25 @@ enum {
     CP_SWAP_RECEIPT_LENGTH
 };
 
+/* ---- a day sheet: 6 numbers and the bytes of a row that is begun; zeros before the first row */
+enum {
+    CP_SWAP_SHEET_TRADE_RATE, /* the rates for the next opening */
+    CP_SWAP_SHEET_PROTOCOL_RATE,
+    CP_SWAP_SHEET_FUND_RATE,
+    CP_SWAP_SHEET_CREATOR_RATE,
+    CP_SWAP_SHEET_SHARE_RATE,
+    CP_SWAP_SHEET_HELD, /* how many bytes are held of a row that is begun */
+    CP_SWAP_SHEET_LENGTH
+};
+enum { CP_SWAP_ROW_LENGTH = 103 }; /* a row and its newline */
+
+/* ---- how far a piece of a day sheet has come */
+enum {
+    CP_SWAP_TAKEN,   /* bytes of the input */
+    CP_SWAP_WRITTEN, /* bytes of the output: whole rows from its beginning */
+    CP_SWAP_PROGRESS_LENGTH
+};
+
 /* ---- refusals */
 enum {
     CP_SWAP_ACCEPTED = 0,
@@ -133,6 +154,37 @@ uint64_t cp_swap_set_status(uint64_t pool[21], uint64_t ring[500], uint64_t rece
 
 /* The vaults less their counters: what the LP tokens are worth together. */
 uint64_t cp_swap_nets(const uint64_t pool[21], uint64_t nets[2]);
+
+/* ---- the day sheet
+ *
+ * Rows in, a row out for each. A row is a number in 2 columns and five in 20 each, decimal and
+ * right-justified, and a newline; numbers that a kind does not use are 0. The kinds:
+ *   0 rates for the next openings: trade, protocol, fund, creator, share
+ *   1 opening: amount 0, amount 1, fee model, enabled, open time
+ *   2 swap by input: direction, amount, minimum, clock
+ *   3 swap by output: direction, amount, maximum, clock
+ *   4 deposit: LP, maximum 0, maximum 1
+ *   5 withdrawal: LP, the owner's LP, minimum 0, minimum 1
+ *   6 settlement, at the pool's share rate
+ *   7 status: bit, flag
+ * The answer: the refusal's number or 0, two amounts, the two nets, the LP supply. A row that can't be
+ * read is answered with 12. Refused rows change nothing.
+ *
+ * The input may be cut anywhere. `held` keeps the bytes of a row that is begun, as many as
+ * sheet[CP_SWAP_SHEET_HELD] says.
+ */
+
+/* A piece of the input: takes bytes as long as the output has room for another row of 103, and writes
+ * the answer of each row that they end. What stands in the output after these rows is left as it is.
+ * Answers 0, or 3 where the record is no pool; then nothing was written. */
+uint64_t cp_swap_day_sheet(uint64_t pool[21], uint64_t ring[500], uint64_t sheet[6],
+                           uint8_t held[103], const uint8_t *input, size_t input_length,
+                           uint8_t *output, size_t output_length, uint64_t progress[2]);
+
+/* The end of the input: answers its last row, where that has no newline. The progress is 0 and the
+ * bytes written, 0 or 103. No row is begun after it. Answers as above. */
+uint64_t cp_swap_day_sheet_end(uint64_t pool[21], uint64_t ring[500], uint64_t sheet[6],
+                               const uint8_t held[103], uint8_t output[103], uint64_t progress[2]);
 
 #ifdef __cplusplus
 }

@@ -1,6 +1,8 @@
-//! Each call of the port beside the original's handler and beside its bare core, in one process
-//! on fresh random data. Prints the table; `bench/run` says where it and the chart go.
+//! Each call of the port beside the original's handler and beside its bare core, then the steps of
+//! its arithmetic beside u128, in one process on fresh random data. Prints the tables; `bench/run`
+//! says where they and the chart go.
 
+mod arithmetic;
 mod bare_core;
 mod chart;
 mod data;
@@ -33,7 +35,8 @@ fn main() -> ExitCode {
             table::Row { bench, times: measure::measured(&bench, &mut random, batches) }
         })
         .collect();
-    print!("{}", table::markdown(&rows));
+    println!("### The calls, nanoseconds\n\n{}", table::markdown(&rows));
+    print!("### The arithmetic, nanoseconds\n\n{}", arithmetic::measured(&mut random, batches));
     match fs::write(chart, chart::svg(&rows)) {
         Ok(()) => ExitCode::SUCCESS,
         Err(error) => {

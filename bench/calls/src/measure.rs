@@ -123,7 +123,7 @@ fn same(((work, port), (memory, core)): ((&Work, &Port), (&Memory, &Core))) {
     assert_eq!(core.vaults(), state.pool.vaults);
 }
 
-fn median(mut times: Vec<f64>) -> Option<f64> {
+pub fn median(mut times: Vec<f64>) -> Option<f64> {
     times.sort_by(f64::total_cmp);
     times.get(times.len() / 2).copied()
 }

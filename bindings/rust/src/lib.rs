@@ -1,6 +1,6 @@
-//! A constant-product token pool: its swaps, deposits, withdrawals, settlements and its ring of
-//! prices. The calls are those of `libcp_swap.a`, whose every function is proved to meet its
-//! contract; this crate gives them names and types and adds no rule of its own.
+//! A constant-product token pool: its swaps, deposits, withdrawals, settlements, its ring of prices
+//! and its [day sheet](DaySheet). The calls are those of `libcp_swap.a`, whose every function is
+//! proved to meet its contract; this crate gives them names and types and adds no rule of its own.
 //!
 //! A call either is accepted, and gives a [`Receipt`], or it is refused with a [`Refusal`] and has
 //! changed nothing. No number makes a call panic.
@@ -27,6 +27,7 @@
 #![deny(unsafe_code)]
 
 mod calls;
+mod day_sheet;
 mod receipt;
 mod record;
 mod refusal;
@@ -35,6 +36,7 @@ mod ring;
 pub mod plain;
 
 pub use calls::{Direction, FeeModel, Opening, StatusBit};
+pub use day_sheet::{DaySheet, Progress, ROW_LENGTH};
 pub use receipt::Receipt;
 pub use record::{Pool, Rates, RingHead};
 pub use refusal::Refusal;

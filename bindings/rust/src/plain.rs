@@ -15,6 +15,11 @@ pub type PoolWords = [u64; 21];
 pub type RingWords = [u64; 500];
 /// A receipt: the fields of [`Receipt`] in their order.
 pub type ReceiptWords = [u64; 16];
+/// A day sheet's numbers: trade, protocol, fund, creator and share rate for the next opening, and how
+/// many bytes are held of a row that is begun.
+pub type SheetWords = [u64; 6];
+/// A row of a day sheet with its newline.
+pub type RowBytes = [u8; 103];
 
 #[rustfmt::skip]
 extern "C" {
@@ -40,10 +45,18 @@ extern "C" {
     fn cp_swap_settle_creator_fee(pool: *mut u64, ring: *mut u64, receipt: *mut u64, share: u64) -> u64;
     fn cp_swap_set_status(pool: *mut u64, ring: *mut u64, receipt: *mut u64, bit: u64, flag: u64) -> u64;
     fn cp_swap_nets(pool: *const u64, nets: *mut u64) -> u64;
+    fn cp_swap_day_sheet(
+        pool: *mut u64, ring: *mut u64, sheet: *mut u64, held: *mut u8,
+        input: *const u8, input_length: usize, output: *mut u8, output_length: usize, progress: *mut u64,
+    ) -> u64;
+    fn cp_swap_day_sheet_end(
+        pool: *mut u64, ring: *mut u64, sheet: *mut u64, held: *const u8, output: *mut u8, progress: *mut u64,
+    ) -> u64;
 }
 
-// In each call below the references are to whole arrays of the lengths that the library takes;
-// being mutable they do not overlap, and the library uses them during the call only.
+// In each call below the references are to whole arrays of the lengths that the library takes, or
+// the length of a slice goes with it; those that are written do not overlap with another, and the
+// library uses them during the call only.
 
 /// An opening; the terms are fee model, enabled and open time, the rates trade, protocol, fund,
 /// creator and share.
@@ -149,6 +162,41 @@ pub fn set_status(
 pub fn nets(pool: &PoolWords, nets: &mut [u64; 2]) -> u64 {
     // SAFETY: as said above.
     unsafe { cp_swap_nets(pool.as_ptr(), nets.as_mut_ptr()) }
+}
+
+/// A piece of a day sheet: takes bytes as long as the output has room for another row of 103, and
+/// answers each row that they end. The progress is how many bytes were taken and how many written.
+pub fn day_sheet(
+    pool: &mut PoolWords,
+    ring: &mut RingWords,
+    sheet: &mut SheetWords,
+    held: &mut RowBytes,
+    input: &[u8],
+    output: &mut [u8],
+    progress: &mut [u64; 2],
+) -> u64 {
+    let (pool, ring, sheet, held) =
+        (pool.as_mut_ptr(), ring.as_mut_ptr(), sheet.as_mut_ptr(), held.as_mut_ptr());
+    let (room, output) = (output.len(), output.as_mut_ptr());
+    let progress = progress.as_mut_ptr();
+    // SAFETY: as said above.
+    unsafe { cp_swap_day_sheet(pool, ring, sheet, held, input.as_ptr(), input.len(), output, room, progress) }
+}
+
+/// The end of a day sheet: answers the row that is begun, if there is one. The progress is 0 and how
+/// many bytes were written, 0 or 103.
+pub fn day_sheet_end(
+    pool: &mut PoolWords,
+    ring: &mut RingWords,
+    sheet: &mut SheetWords,
+    held: &RowBytes,
+    output: &mut RowBytes,
+    progress: &mut [u64; 2],
+) -> u64 {
+    let (pool, ring, sheet) = (pool.as_mut_ptr(), ring.as_mut_ptr(), sheet.as_mut_ptr());
+    let (output, progress) = (output.as_mut_ptr(), progress.as_mut_ptr());
+    // SAFETY: as said above.
+    unsafe { cp_swap_day_sheet_end(pool, ring, sheet, held.as_ptr(), output, progress) }
 }
 
 /// The fields as an array; each of these types is as many u64 in a row, without gaps.

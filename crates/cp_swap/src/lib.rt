@@ -1,7 +1,9 @@
 // The pool for callers in C and Rust: each call over plain memory. The caller lends the pool's record, its ring's entries and a
-// receipt, separate pieces of memory, in the order of `words`.
+// receipt, in the order of `words`. The pieces of memory of one call must be separate, aligned for their numbers and of full length:
+// this is taken for granted and not tested.
 // A call returns 0 and writes what it gives, or it returns its refusal's number and writes nothing.
 mod calls;
+mod day_sheet;
 
 use crate::calls::call_on;
 use crate::calls::rates_of;
@@ -25,11 +27,11 @@ pub extern "C" fn cp_swap_base_input(
     ring: &mut [u64; 500],
     receipt: &mut [u64; 16],
     direction: u64,
-    amount: u64,
+    amount_in: u64,
     minimum: u64,
     clock: u64,
 ) -> u64
-    ensures { λ r. ⌜ memory r (now (pool .exit)) (now (ring .exit)) (now (receipt .exit)) ≡ calledOn (now (pool .entry)) (now (ring .entry)) (now (receipt .entry)) (Call.SwapBaseInput direction amount minimum clock) ⌝ }
+    ensures { λ r. ⌜ memory r (now (pool .exit)) (now (ring .exit)) (now (receipt .exit)) ≡ calledOn (now (pool .entry)) (now (ring .entry)) (now (receipt .entry)) (Call.SwapBaseInput direction «amount_in» minimum clock) ⌝ }
 {
     call_on(
         pool,
@@ -37,7 +39,7 @@ pub extern "C" fn cp_swap_base_input(
         receipt,
         Call::SwapBaseInput {
             direction,
-            amount,
+            amount: amount_in,
             minimum,
             clock,
         },
@@ -51,11 +53,11 @@ pub extern "C" fn cp_swap_base_output(
     ring: &mut [u64; 500],
     receipt: &mut [u64; 16],
     direction: u64,
-    amount: u64,
+    amount_out: u64,
     maximum: u64,
     clock: u64,
 ) -> u64
-    ensures { λ r. ⌜ memory r (now (pool .exit)) (now (ring .exit)) (now (receipt .exit)) ≡ calledOn (now (pool .entry)) (now (ring .entry)) (now (receipt .entry)) (Call.SwapBaseOutput direction amount maximum clock) ⌝ }
+    ensures { λ r. ⌜ memory r (now (pool .exit)) (now (ring .exit)) (now (receipt .exit)) ≡ calledOn (now (pool .entry)) (now (ring .entry)) (now (receipt .entry)) (Call.SwapBaseOutput direction «amount_out» maximum clock) ⌝ }
 {
     call_on(
         pool,
@@ -63,7 +65,7 @@ pub extern "C" fn cp_swap_base_output(
         receipt,
         Call::SwapBaseOutput {
             direction,
-            amount,
+            amount: amount_out,
             maximum,
             clock,
         },

@@ -1,0 +1,27 @@
+//! Links libleaves.a, from the folder that LEAVES_LIB names or from the repository's
+//! `target/staticlib`. `bindings/library leaves` builds it.
+
+use std::env;
+use std::path::PathBuf;
+
+const VARIABLE: &str = "LEAVES_LIB";
+const FROM_HERE: &str = "../../target/staticlib";
+
+fn main() {
+    let folder = env::var_os(VARIABLE).map_or_else(default_folder, PathBuf::from);
+    let library = folder.join("libleaves.a");
+    assert!(
+        library.is_file(),
+        "{} is missing: run bindings/library leaves, or set {VARIABLE}",
+        library.display()
+    );
+    println!("cargo:rerun-if-env-changed={VARIABLE}");
+    println!("cargo:rerun-if-changed={}", library.display());
+    println!("cargo:rustc-link-search=native={}", folder.display());
+    println!("cargo:rustc-link-lib=static=leaves");
+}
+
+fn default_folder() -> PathBuf {
+    PathBuf::from(env::var_os("CARGO_MANIFEST_DIR").expect("cargo names the manifest's folder"))
+        .join(FROM_HERE)
+}
