@@ -1,20 +1,23 @@
 -- LP tokens as trading tokens: one long division gives quotient and remainder, and these the rounded part.
 -- Assumes nothing.
-use mathlib.Core.Path.{_≡_, refl, sym, ap, _∙_}
+use mathlib.Core.Path.{_≡_, refl, sym, ap, subst, _∙_}
 use mathlib.Core.Bool.{Bool, true, false, cond, _||_}
 use mathlib.Core.List.{[], _∷_}
 use mathlib.Core.Logic.{⊎-elim}
 use Prim.Native.Nat.{ℕ, _+_, _-_, _*_, _/_, _%_, _^_, _<_, _≤_}
-use native.Mathlib.Nat.{eq-zero-or-pos}
+use native.Mathlib.Nat.{eq-zero-or-pos, pos-of-ne-zero}
 use native.Mathlib.Omega.{arith}
 use lib.Dec.{eqb}
 use borrow.Author.Tests.{eqb-true, eqb-false, eq-eqb, ne-eqb}
 use Rattle.math.specs.declared.ratio.Parts.{Parts}
 use Rattle.math.specs.declared.ratio.Parts.the-variants as P
-use Rattle.math.specs.Division.{ceilDiv}
+use Rattle.math.specs.declared.divide.Divided.{Divided}
+use Rattle.math.specs.declared.wide.U128.{U128}
+use Rattle.math.specs.Value.{value}
+use Rattle.math.specs.Division.{ceilDiv, divided}
 use Rattle.math.specs.Ratio.{partsOf}
 use Rattle.math.proofs.Rounding.{lt-or-le, floor-le-ceil, ceil-exact, ceil-more}
-use Rattle.math.proofs.Answers.{parts-none, parts-fits, parts-past}
+use Rattle.math.proofs.Answers.{parts-none, parts-fits, parts-past, halves-fit, halves-past}
 use Rattle.refusal.specs.Refusal.{ZeroTradingTokens, Panic}
 use Rattle.refusal.specs.Tests.{U64, outcome}
 use Rattle.refusal.proofs.Stops.{turns, outcome-at, outcome-all, outcome-past}
@@ -93,6 +96,29 @@ module _ (lp supply net : ℕ) where
       rw (parts-past (lp * net) supply h l) (outcome-at 1 _ _ _ (omega (arith, turns, amount-past direction l))))
       (lt-or-le (lp * net / supply) (2 ^ 64)))
       (eq-zero-or-pos supply)
+
+  -- the cases of the division, as the halves of the product tell them
+  module _ (direction : RoundDirection) (n : U128) (product : value n ≡ lp * net) where
+    pub part-fits :
+        n .low < 2 ^ 64 → n .high < supply → {q : Divided} → q ≡ divided (value n) supply
+        → roundedAnswer direction (q .quotient) (q .remainder) ≡ lpPart direction lp supply net
+    unfolding partAnswer
+    part-fits l h e =
+        let fits = subst (λ (k : ℕ). k / supply < 2 ^ 64) product (halves-fit (n .high) (n .low) supply h l) in
+        ap (λ (q : Divided). roundedAnswer direction (q .quotient) (q .remainder)) (e ∙ ap (λ (k : ℕ). divided k supply) product)
+        ∙ ap (partAnswer direction) (sym (parts-fits (lp * net) supply (omega arith) fits))
+        ∙ part-answer direction
+
+    pub part-none : supply ≡ 0 → Refused ZeroTradingTokens ≡ lpPart direction lp supply net
+    unfolding partAnswer
+    part-none e = ap (partAnswer direction) (sym (parts-none (lp * net) supply e)) ∙ part-answer direction
+
+    pub part-past : (supply ≡ 0 → ⊥) → supply ≤ n .high → Refused Panic ≡ lpPart direction lp supply net
+    unfolding partAnswer
+    part-past f h =
+        let some = pos-of-ne-zero f in
+        let past = subst (λ (k : ℕ). 2 ^ 64 ≤ k / supply) product (halves-past (n .high) (n .low) supply some h) in
+        ap (partAnswer direction) (sym (parts-past (lp * net) supply some past)) ∙ part-answer direction
 
 -- two parts with the same first test, as one answer
 both-parts :

@@ -2,10 +2,10 @@
 use crate::answer::Answer;
 use crate::answer::from_quotient;
 use math::divide::Divided;
-use math::ratio::Parts;
-use math::ratio::mul_div;
+use math::divide::div_rem;
 use math::ratio::mul_div_ceil;
 use math::ratio::mul_div_sum;
+use math::wide::widening_mul;
 use refusal::PANIC;
 use refusal::ZERO_TRADING_TOKENS;
 ghost use mathlib.Core.Path.{_≡_};
@@ -94,11 +94,15 @@ pub fn lp_tokens_to_one_token(
 ) -> Answer
     ensures { λ r. ⌜ r ≡ lpPart direction (lp .0) (supply .0) (net .0) ⌝ }
 {
-    match mul_div(lp.0, net.0, supply.0) {
-        Parts::Fits(divided) => round(divided, direction),
-        Parts::Past => Answer::Refused(PANIC),
-        Parts::NoDivisor => Answer::Refused(ZERO_TRADING_TOKENS),
+    let whole = supply.0;
+    let product = widening_mul(lp.0, net.0);
+    if product.high < whole {
+        return round(div_rem(product, whole), direction);
     }
+    if whole == 0 {
+        return Answer::Refused(ZERO_TRADING_TOKENS);
+    }
+    Answer::Refused(PANIC)
 }
 
 // Both tokens' parts.

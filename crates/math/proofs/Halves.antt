@@ -26,14 +26,36 @@ halves a b =
 pub shl-half : (n : ℕ) → n * 2 ^ 32 % 2 ^ 64 ≡ n % 2 ^ 32 * 2 ^ 32
 shl-half n = omega arith
 
+-- the low half of that sum, added up by itself: the shifted halves are kept modulo a word
+low-column : (p₀₀ p₀₁ p₁₀ lower cross low : ℕ)
+    → lower ≡ p₀₁ + (p₁₀ + p₀₀ / 2 ^ 32) % 2 ^ 32 → cross ≡ (p₀₁ + p₁₀) % 2 ^ 64 → low ≡ (cross * 2 ^ 32 % 2 ^ 64 + p₀₀) % 2 ^ 64
+    → low ≡ lower * 2 ^ 32 % 2 ^ 64 + p₀₀ % 2 ^ 32
+low-column p₀₀ p₀₁ p₁₀ lower cross low el ec e =
+    let halved : cross % 2 ^ 32 ≡ (p₀₁ + p₁₀) % 2 ^ 32 = omega arith in
+    let same : lower % 2 ^ 32 ≡ ((p₀₁ + p₁₀) % 2 ^ 32 + p₀₀ / 2 ^ 32) % 2 ^ 32 =
+    ap (λ (x : ℕ). x % 2 ^ 32) el ∙ inner p₀₁ p₁₀ (p₀₀ / 2 ^ 32) ∙ sym (outer p₀₁ p₁₀ (p₀₀ / 2 ^ 32)) in
+    e
+    ∙ ap (λ (x : ℕ). (x + p₀₀) % 2 ^ 64) (shl-half cross ∙ ap (λ (x : ℕ). x * 2 ^ 32) halved)
+    ∙ carries ((p₀₁ + p₁₀) % 2 ^ 32) p₀₀
+    ∙ ap (λ (x : ℕ). x + p₀₀ % 2 ^ 32) (ap (λ (x : ℕ). x * 2 ^ 32) (sym same) ∙ sym (shl-half lower))
+  where
+    carries : (x p : ℕ) → (x * 2 ^ 32 + p) % 2 ^ 64 ≡ (x + p / 2 ^ 32) % 2 ^ 32 * 2 ^ 32 + p % 2 ^ 32
+    carries x p = omega arith
+
+    inner : (x y z : ℕ) → (x + (y + z) % 2 ^ 32) % 2 ^ 32 ≡ (x + y + z) % 2 ^ 32
+    inner x y z = omega arith
+
+    outer : (x y z : ℕ) → ((x + y) % 2 ^ 32 + z) % 2 ^ 32 ≡ (x + y + z) % 2 ^ 32
+    outer x y z = omega arith
+
 regroup : (P x y z : ℕ) → x * (P * P) + (y * P + z) ≡ (x * P + y) * P + z
 regroup P x y z = simp (add-mul, mul-assoc, mul-comm, mul-left-comm, add-assoc, add-comm, add-left-comm) refl
 
 -- the sum of the four products, column by column with carries
-pub columns : (p₀₀ p₀₁ p₁₀ p₁₁ middle lower : ℕ)
+carried-columns : (p₀₀ p₀₁ p₁₀ p₁₁ middle lower : ℕ)
     → middle ≡ p₁₀ + p₀₀ / 2 ^ 32 → lower ≡ p₀₁ + middle % 2 ^ 32
     → (p₁₁ + middle / 2 ^ 32 + lower / 2 ^ 32) * 2 ^ 64 + (lower * 2 ^ 32 % 2 ^ 64 + p₀₀ % 2 ^ 32) ≡ (p₁₁ * 2 ^ 32 + p₀₁ + p₁₀) * 2 ^ 32 + p₀₀
-columns p₀₀ p₀₁ p₁₀ p₁₁ middle lower em el =
+carried-columns p₀₀ p₀₁ p₁₀ p₁₁ middle lower em el =
     let upper : (p₁₁ + middle / 2 ^ 32 + lower / 2 ^ 32) * 2 ^ 32 + lower % 2 ^ 32 ≡ p₁₁ * 2 ^ 32 + p₀₁ + p₁₀ + p₀₀ / 2 ^ 32 = omega arith in
     ap (λ (x : ℕ). (p₁₁ + middle / 2 ^ 32 + lower / 2 ^ 32) * 2 ^ 64 + (x + p₀₀ % 2 ^ 32)) (shl-half lower)
     ∙ regroup (2 ^ 32) (p₁₁ + middle / 2 ^ 32 + lower / 2 ^ 32) (lower % 2 ^ 32) (p₀₀ % 2 ^ 32)
@@ -42,3 +64,11 @@ columns p₀₀ p₀₁ p₁₀ p₁₁ middle lower em el =
   where
     last : (x p : ℕ) → (x + p / 2 ^ 32) * 2 ^ 32 + p % 2 ^ 32 ≡ x * 2 ^ 32 + p
     last x p = omega arith
+
+-- both halves of the sum
+pub columns : (p₀₀ p₀₁ p₁₀ p₁₁ lower cross low : ℕ)
+    → lower ≡ p₀₁ + (p₁₀ + p₀₀ / 2 ^ 32) % 2 ^ 32 → cross ≡ (p₀₁ + p₁₀) % 2 ^ 64 → low ≡ (cross * 2 ^ 32 % 2 ^ 64 + p₀₀) % 2 ^ 64
+    → (p₁₁ + (p₁₀ + p₀₀ / 2 ^ 32) / 2 ^ 32 + lower / 2 ^ 32) * 2 ^ 64 + low ≡ (p₁₁ * 2 ^ 32 + p₀₁ + p₁₀) * 2 ^ 32 + p₀₀
+columns p₀₀ p₀₁ p₁₀ p₁₁ lower cross low el ec e =
+    ap (λ (x : ℕ). (p₁₁ + (p₁₀ + p₀₀ / 2 ^ 32) / 2 ^ 32 + lower / 2 ^ 32) * 2 ^ 64 + x) (low-column p₀₀ p₀₁ p₁₀ lower cross low el ec e)
+    ∙ carried-columns p₀₀ p₀₁ p₁₀ p₁₁ _ lower refl el

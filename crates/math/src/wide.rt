@@ -14,7 +14,8 @@ pub enum Product {
     Past,
 }
 
-// The whole product, by its four products of 32-bit halves.
+// The whole product, by its four products of 32-bit halves. The low half is summed apart from the high one: in this form the compiler
+// makes one machine multiplication of all of it.
 pub fn widening_mul(a: u64, b: u64) -> U128
     ensures { λ r. ⌜ value r ≡ a * b ⌝ }
 {
@@ -28,9 +29,10 @@ pub fn widening_mul(a: u64, b: u64) -> U128
     let p11 = a1 * b1;
     let middle = p10 + (p00 >> 32);
     let lower = p01 + middle % 0x1_0000_0000;
+    let cross = std::num::wrapping_add_u64(p01, p10);
     U128 {
         high: p11 + (middle >> 32) + (lower >> 32),
-        low: (lower << 32) + p00 % 0x1_0000_0000,
+        low: std::num::wrapping_add_u64(cross << 32, p00),
     }
 }
 

@@ -3,6 +3,7 @@ use mathlib.Core.Path.{refl, sym, _∙_}
 use Prim.Native.Nat.{ℕ, _-_, _*_, _/_, _%_, _^_, _≤_, _<_}
 use native.Mathlib.Omega.{arith}
 use Rattle.math.proofs.Halves.{half-mul, halves, columns}
+use borrow.Author.Needs.{needs}
 use Rattle.math.proofs.wide.widening_mul.Statement.{statement}
 use Rattle.math.proofs.wide.widening_mul.Tie as tie
 
@@ -42,22 +43,27 @@ add-middle c = omega (arith, of c)
 add-lower : tie.Need-add-lower
 add-lower c = omega (arith, of c)
 
-add-t14 : tie.Need-add-t14
-add-t14 c = omega (arith, of c)
+wrapping-add-u64-requires : tie.Need-wrapping-add-u64-requires
+wrapping-add-u64-requires c κs = search needs
 
-add-t16 : tie.Need-add-t16
-add-t16 c = omega (arith, of c)
+add-t15 : tie.Need-add-t15
+add-t15 c = omega (arith, of (c .before))
 
-add-t19 : tie.Need-add-t19
-add-t19 c = omega (arith, of c)
+add-t17 : tie.Need-add-t17
+add-t17 c = omega (arith, of (c .before))
+
+wrapping-add-u64-requires-2 : tie.Need-wrapping-add-u64-requires-2
+wrapping-add-u64-requires-2 c κs = search needs
 
 returns : tie.Need-returns
 returns c =
-    let a = c .args .a in
-    let b = c .args .b in
-    columns (a % 2 ^ 32 * (b % 2 ^ 32)) (a % 2 ^ 32 * (b / 2 ^ 32)) (a / 2 ^ 32 * (b % 2 ^ 32)) (a / 2 ^ 32 * (b / 2 ^ 32)) _ _ refl refl ∙ sym (halves a b)
+    let a = c .before .before .args .a in
+    let b = c .before .before .args .b in
+    columns (a % 2 ^ 32 * (b % 2 ^ 32)) (a % 2 ^ 32 * (b / 2 ^ 32)) (a / 2 ^ 32 * (b % 2 ^ 32)) (a / 2 ^ 32 * (b / 2 ^ 32)) _ _ _ refl
+    (c .before .wrapping-add-u64 .ensures) (c .wrapping-add-u642 .ensures)
+    ∙ sym (halves a b)
 
 pub widening-mul-spec : {M : Type 1} → statement M
 widening-mul-spec =
     tie.close
-    (tie.spec mul-p00 mul-p01 mul-p10 mul-p11 add-middle add-lower add-t14 add-t16 add-t19 returns)
+    (tie.spec mul-p00 mul-p01 mul-p10 mul-p11 add-middle add-lower wrapping-add-u64-requires add-t15 add-t17 wrapping-add-u64-requires-2 returns)
