@@ -2,9 +2,10 @@
 -- Assumes nothing.
 use Prim.Native.Nat.{ℕ}
 use mathlib.Core.Path.{_≡_, refl, sym, ap, _∙_}
-use mathlib.Core.Bool.{Bool, cond}
+use mathlib.Core.Bool.{Bool, true, false, cond}
 use mathlib.Core.List.{List}
-use borrow.Author.Tests.{eq-eqb, ne-eqb}
+use lib.Dec.{eqb}
+use borrow.Author.Tests.{eq-eqb, ne-eqb, eqb-true, eqb-false}
 use Rattle.refusal.specs.Tests.{first}
 use Rattle.refusal.proofs.Stops.{outcome-stop, outcome-go}
 use Rattle.curve.specs.declared.calculator.Rates.{Rates}
@@ -12,13 +13,18 @@ use Rattle.accounting.specs.declared.Nets.{Nets}
 use Rattle.accounting.specs.Counters.{netsAnswer}
 use Rattle.pool.specs.declared.state.Pool.{Pool}
 use Rattle.pool.specs.declared.state.After.{After}
+use Rattle.pool.specs.declared.swap.Decision.{Decision}
 use Rattle.pool.specs.State.{Done, done}
+use Rattle.pool.specs.Swap.{doneOf}
+use Rattle.pool.specs.Swaps.{swapOf}
+use Rattle.oracle.specs.Update.{storedIn}
 use Rattle.pool.specs.Opening.{opening}
 use Rattle.history.specs.declared.call.Call.{Call}
 use Rattle.history.specs.Run.{State, stateOf, next}
 use Rattle.history.proofs.Decisions.{numberOf}
 use Rattle.history.proofs.Refusals.{call-number-tells}
 use Rattle.words.specs.Words.{poolWords, poolOf, receiptWords}
+use Rattle.cp_swap.specs.Steps.{Given, givenMemory, givenOn, swapCall}
 use Rattle.cp_swap.specs.Memory.{Memory, memory, untouched, stored, recordTests, calledOn, ratesOf, openedOn, netsMemory, storedNets, netsOn}
 
 -- what a call gave, a with the ring's entries e′, is written or not by its number
@@ -38,6 +44,21 @@ module _ (p e r : List ℕ) (a : After) (e′ : List ℕ) where
       ap (λ (w : List ℕ). memory 0 w e′ s) record-written
       ∙ ap (memory 0 (poolWords (a .pool)) e′) receipt-written
       ∙ sym (ap choice (eq-eqb _ _ z))
+
+-- ---- what was given
+module _ (p r : List ℕ) (a : After) where
+  abbrev pick : Bool → Given
+  pick b = cond b (givenMemory 0 (poolWords (a .pool)) (receiptWords (a .receipt))) (givenMemory (a .receipt .number) p r)
+
+  pub given-refused : (a .receipt .number ≡ 0 → ⊥) → givenMemory (a .receipt .number) p r ≡ givenOn p r a
+  unfolding givenOn
+  given-refused f = sym (ap pick (ne-eqb _ _ f))
+
+  pub given-accepted :
+      {w s : List ℕ} → a .receipt .number ≡ 0 → w ≡ poolWords (a .pool) → s ≡ receiptWords (a .receipt) → givenMemory 0 w s ≡ givenOn p r a
+  unfolding givenOn
+  given-accepted {w} {s} z record-written receipt-written =
+      ap (λ (w : List ℕ). givenMemory 0 w s) record-written ∙ ap (givenMemory 0 (poolWords (a .pool))) receipt-written ∙ sym (ap pick (eq-eqb _ _ z))
 
 -- ---- a call
 module _ (p e r : List ℕ) (c : Call) (n : ℕ) (read : n ≡ first (recordTests p)) where
@@ -73,6 +94,42 @@ module _ (p e r : List ℕ) (c : Call) (n : ℕ) (read : n ≡ first (recordTest
         → memory 0 w e′ s ≡ calledOn p e r c
     call-accepted z record-written receipt-written =
         stored-accepted p e r a e′ z record-written receipt-written ∙ of-call
+
+    -- what was given is written, and the entries e′ stand
+    pub call-given : {g : Given} → g ≡ givenOn p r a → memory (g .number) (g .pool) e′ (g .receipt) ≡ calledOn p e r c
+    unfolding givenOn
+    call-given {g} written = ap over written ∙ go (eqb (a .receipt .number) 0) refl
+      where
+        over : Given → Memory
+        over g = memory (g .number) (g .pool) e′ (g .receipt)
+
+        go : (b : Bool) → eqb (a .receipt .number) 0 ≡ b → over (pick p r a (eqb (a .receipt .number) 0)) ≡ calledOn p e r c
+        go true t = ap (λ b. over (pick p r a b)) t ∙ call-accepted (eqb-true _ _ t) refl refl
+        go false t = ap (λ b. over (pick p r a b)) t ∙ call-refused (eqb-false _ _ t)
+
+  -- a call that the ring has no part in
+  pub alone-given :
+      (gives : Pool → After) → ((q : Pool) → done (gives q) e ≡ next (stateOf q e) c) → n ≡ 0
+      → {q : Pool} {a : After} {g : Given} → q ≡ poolOf p → a ≡ gives q → g ≡ givenOn p r a
+      → memory (g .number) (g .pool) e (g .receipt) ≡ calledOn p e r c
+  alone-given gives is z {q} pool came written = call-given z pool (ap (λ (a : After). done a e) came ∙ is q) written
+
+-- ---- either swap, decided on q, its update stored
+module _ (p e r : List ℕ) (byInput : Bool) (direction amount limit clock n : ℕ) (read : n ≡ first (recordTests p)) (z : n ≡ 0) where
+  swap-next : (q : Pool) → swapOf byInput q e direction amount limit clock ≡ next (stateOf q e) (swapCall byInput direction amount limit clock)
+  unfolding next
+  swap-next q = go byInput
+    where
+      go : (b : Bool) → swapOf b q e direction amount limit clock ≡ next (stateOf q e) (swapCall b direction amount limit clock)
+      go true = refl
+      go false = refl
+
+  pub swap-given :
+      {q : Pool} (d : Decision) {e′ : List ℕ} {g : Given} → q ≡ poolOf p → doneOf e d ≡ swapOf byInput q e direction amount limit clock
+      → e′ ≡ storedIn e (d .update) → g ≡ givenOn p r (d .after)
+      → memory (g .number) (g .pool) e′ (g .receipt) ≡ calledOn p e r (swapCall byInput direction amount limit clock)
+  swap-given {q} d pool decided stores written =
+      call-given p e r _ n read z pool (ap (done (d .after)) stores ∙ decided ∙ swap-next q) written
 
 -- ---- an opening, which gave a and the entries e′
 module _ (p e r : List ℕ) (amount0 amount1 model enabled openTime : ℕ) (w : List ℕ) {rates : Rates} {a : After} {e′ : List ℕ}

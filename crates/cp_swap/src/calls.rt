@@ -1,7 +1,7 @@
-// A call over plain memory: the record is tested and read, the call applied, and what it gives is written where it is accepted.
+// The steps of a call over plain memory: the record is tested and read, and what the call gives is written where it is accepted.
 use curve::calculator::Rates;
-use history::apply::apply;
-use history::call::Call;
+use oracle::store;
+use pool::state::After;
 use refusal::ACCEPTED;
 use refusal::INVALID_INPUT;
 use words::pool_of;
@@ -10,9 +10,10 @@ use words::receipt_words;
 ghost use mathlib.Core.Path.{_≡_};
 ghost use Rattle.refusal.specs.Tests.{first};
 ghost use Rattle.cp_swap.specs.Memory.{memory, recordTests, calledOn, ratesOf};
+ghost use Rattle.cp_swap.specs.Steps.{givenMemory, givenOn, swapCall};
 
 // A flag of the record that is neither 0 nor 1, 3; or 0.
-pub(crate) fn record_number(w: [u64; 21]) -> u64
+pub fn record_number(w: [u64; 21]) -> u64
     ensures { λ r. ⌜ r ≡ first (recordTests w) ⌝ }
 {
     if w[12] > 1 {
@@ -25,7 +26,7 @@ pub(crate) fn record_number(w: [u64; 21]) -> u64
 }
 
 // Five numbers as the rates of an opening.
-pub(crate) fn rates_of(w: [u64; 5]) -> Rates
+pub fn rates_of(w: [u64; 5]) -> Rates
     ensures { λ r. ⌜ r ≡ ratesOf w ⌝ }
 {
     Rates {
@@ -37,21 +38,10 @@ pub(crate) fn rates_of(w: [u64; 5]) -> Rates
     }
 }
 
-// A refused call has left the ring as it was, so nothing is to be undone.
-pub(crate) fn call_on(
-    pool: &mut [u64; 21],
-    ring: &mut [u64; 500],
-    receipt: &mut [u64; 16],
-    call: Call,
-) -> u64
-    ensures { λ r. ⌜ memory r (now (pool .exit)) (now (ring .exit)) (now (receipt .exit)) ≡ calledOn (now (pool .entry)) (now (ring .entry)) (now (receipt .entry)) call ⌝ }
+// What a call gave is written where it was accepted; the number.
+pub(crate) fn give(pool: &mut [u64; 21], receipt: &mut [u64; 16], after: After) -> u64
+    ensures { λ r. ⌜ givenMemory r (now (pool .exit)) (now (receipt .exit)) ≡ givenOn (now (pool .entry)) (now (receipt .entry)) after ⌝ }
 {
-    let w = *pool;
-    let unreadable = record_number(w);
-    if unreadable != ACCEPTED {
-        return unreadable;
-    }
-    let after = apply(pool_of(w), ring, call);
     let number = after.receipt.number;
     if number != ACCEPTED {
         return number;
@@ -61,4 +51,29 @@ pub(crate) fn call_on(
     *pool = pool_words(next);
     *receipt = receipt_words(shown);
     ACCEPTED
+}
+
+// Either swap. The ring's entries are stored last; a refused swap has none to store.
+pub(crate) fn swap_on(
+    pool: &mut [u64; 21],
+    ring: &mut [u64; 500],
+    receipt: &mut [u64; 16],
+    by_input: bool,
+    direction: u64,
+    amount: u64,
+    limit: u64,
+    clock: u64,
+) -> u64
+    ensures { λ r. ⌜ memory r (now (pool .exit)) (now (ring .exit)) (now (receipt .exit)) ≡ calledOn (now (pool .entry)) (now (ring .entry)) (now (receipt .entry)) (swapCall «by_input» direction amount limit clock) ⌝ }
+{
+    let w = *pool;
+    let unreadable = record_number(w);
+    if unreadable != ACCEPTED {
+        return unreadable;
+    }
+    let decision = pool_of(w).decide(ring, by_input, direction, amount, limit, clock);
+    let update = decision.update;
+    let number = give(pool, receipt, decision.after);
+    store(ring, update);
+    number
 }

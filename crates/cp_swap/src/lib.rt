@@ -2,12 +2,12 @@
 // receipt, in the order of `words`. The pieces of memory of one call must be separate, aligned for their numbers and of full length:
 // this is taken for granted and not tested.
 // A call returns 0 and writes what it gives, or it returns its refusal's number and writes nothing.
-mod calls;
-mod day_sheet;
+pub mod calls;
 
-use crate::calls::call_on;
+use crate::calls::give;
 use crate::calls::rates_of;
 use crate::calls::record_number;
+use crate::calls::swap_on;
 use accounting::Nets;
 use curve::constant_product::LpTokens;
 use curve::constant_product::TradingTokens;
@@ -33,16 +33,15 @@ pub extern "C" fn cp_swap_base_input(
 ) -> u64
     ensures { λ r. ⌜ memory r (now (pool .exit)) (now (ring .exit)) (now (receipt .exit)) ≡ calledOn (now (pool .entry)) (now (ring .entry)) (now (receipt .entry)) (Call.SwapBaseInput direction «amount_in» minimum clock) ⌝ }
 {
-    call_on(
+    swap_on(
         pool,
         ring,
         receipt,
-        Call::SwapBaseInput {
-            direction,
-            amount: amount_in,
-            minimum,
-            clock,
-        },
+        true,
+        direction,
+        amount_in,
+        minimum,
+        clock,
     )
 }
 
@@ -59,16 +58,15 @@ pub extern "C" fn cp_swap_base_output(
 ) -> u64
     ensures { λ r. ⌜ memory r (now (pool .exit)) (now (ring .exit)) (now (receipt .exit)) ≡ calledOn (now (pool .entry)) (now (ring .entry)) (now (receipt .entry)) (Call.SwapBaseOutput direction «amount_out» maximum clock) ⌝ }
 {
-    call_on(
+    swap_on(
         pool,
         ring,
         receipt,
-        Call::SwapBaseOutput {
-            direction,
-            amount: amount_out,
-            maximum,
-            clock,
-        },
+        false,
+        direction,
+        amount_out,
+        maximum,
+        clock,
     )
 }
 
@@ -84,16 +82,17 @@ pub extern "C" fn cp_swap_deposit(
 ) -> u64
     ensures { λ r. ⌜ memory r (now (pool .exit)) (now (ring .exit)) (now (receipt .exit)) ≡ calledOn (now (pool .entry)) (now (ring .entry)) (now (receipt .entry)) (Call.Deposit (record { 0 = lp }) (record { 0 = maximum0 }) (record { 0 = maximum1 })) ⌝ }
 {
-    call_on(
-        pool,
-        ring,
-        receipt,
-        Call::Deposit {
-            lp: LpTokens(lp),
-            maximum0: TradingTokens(maximum0),
-            maximum1: TradingTokens(maximum1),
-        },
-    )
+    let w = *pool;
+    let unreadable = record_number(w);
+    if unreadable != ACCEPTED {
+        return unreadable;
+    }
+    let after = pool_of(w).deposit(
+        LpTokens(lp),
+        TradingTokens(maximum0),
+        TradingTokens(maximum1),
+    );
+    give(pool, receipt, after)
 }
 
 // LP tokens, of those that the caller owns, back for tokens of both kinds.
@@ -109,17 +108,18 @@ pub extern "C" fn cp_swap_withdraw(
 ) -> u64
     ensures { λ r. ⌜ memory r (now (pool .exit)) (now (ring .exit)) (now (receipt .exit)) ≡ calledOn (now (pool .entry)) (now (ring .entry)) (now (receipt .entry)) (Call.Withdraw (record { 0 = lp }) (record { 0 = owned }) (record { 0 = minimum0 }) (record { 0 = minimum1 })) ⌝ }
 {
-    call_on(
-        pool,
-        ring,
-        receipt,
-        Call::Withdraw {
-            lp: LpTokens(lp),
-            owned: LpTokens(owned),
-            minimum0: TradingTokens(minimum0),
-            minimum1: TradingTokens(minimum1),
-        },
-    )
+    let w = *pool;
+    let unreadable = record_number(w);
+    if unreadable != ACCEPTED {
+        return unreadable;
+    }
+    let after = pool_of(w).withdraw(
+        LpTokens(lp),
+        LpTokens(owned),
+        TradingTokens(minimum0),
+        TradingTokens(minimum1),
+    );
+    give(pool, receipt, after)
 }
 
 // The creator counters are paid out, the shared part apart.
@@ -132,7 +132,13 @@ pub extern "C" fn cp_swap_settle_creator_fee(
 ) -> u64
     ensures { λ r. ⌜ memory r (now (pool .exit)) (now (ring .exit)) (now (receipt .exit)) ≡ calledOn (now (pool .entry)) (now (ring .entry)) (now (receipt .entry)) (Call.Settle share) ⌝ }
 {
-    call_on(pool, ring, receipt, Call::Settle { share })
+    let w = *pool;
+    let unreadable = record_number(w);
+    if unreadable != ACCEPTED {
+        return unreadable;
+    }
+    let after = pool_of(w).settle_creator_fee(share);
+    give(pool, receipt, after)
 }
 
 // One bit of the status is set or cleared.
@@ -146,7 +152,13 @@ pub extern "C" fn cp_swap_set_status(
 ) -> u64
     ensures { λ r. ⌜ memory r (now (pool .exit)) (now (ring .exit)) (now (receipt .exit)) ≡ calledOn (now (pool .entry)) (now (ring .entry)) (now (receipt .entry)) (Call.SetStatus bit flag) ⌝ }
 {
-    call_on(pool, ring, receipt, Call::SetStatus { bit, flag })
+    let w = *pool;
+    let unreadable = record_number(w);
+    if unreadable != ACCEPTED {
+        return unreadable;
+    }
+    let after = pool_of(w).set_status(bit, flag);
+    give(pool, receipt, after)
 }
 
 // A new pool, whatever the memory held. The rates: trade, protocol, fund, creator, share.

@@ -23,9 +23,9 @@ const OBSERVATION_UPDATE_DURATION_DEFAULT: u64 = 15;
 
 // The ring's head. `mark` is the original's last_update_timestamp. The entries are lent beside it: 500 numbers, five an entry.
 pub struct Ring {
-    pub used: bool,
     pub index: u64,
     pub mark: u64,
+    pub used: bool,
 }
 
 // One entry, by value.

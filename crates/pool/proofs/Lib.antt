@@ -1,5 +1,6 @@
 pub mod SwapBooking
 pub mod SwapStages
+pub mod EitherSwap
 pub mod LiquidityLaws
 pub mod NetPrices
 pub mod Rooms

@@ -14,6 +14,7 @@ use Rattle.curve.specs.declared.answer.Answer.the-variants as A
 use Rattle.curve.specs.declared.constant_product.RoundDirection.{RoundDirection}
 use Rattle.curve.specs.declared.constant_product.TradingTokenResult.{TradingTokenResult}
 use Rattle.curve.specs.declared.constant_product.TradingTokenResult.the-variants as T
+use Rattle.curve.specs.declared.constant_product.TradingTokens.{TradingTokens}
 use Rattle.curve.specs.ConstantProduct.{lpAmount, lpPart, tokens}
 use Rattle.accounting.specs.declared.Nets.{Nets}
 use Rattle.accounting.specs.declared.Nets.the-variants as N
@@ -77,6 +78,27 @@ module _ (direction : RoundDirection) (p : Pool) (lp : ℕ) where
       (outcome (counterTests (p .vault0) (p .vault1) (p .fees)) Refused)
       (outcome-map (tokensWorth (net0 p) (net1 p)) _ T.Refused _)
       ∙ outcome-then _ _ Refused _
+
+  -- the worth, by the answers on the way to it
+  module _ {nets : Nets} (of-nets : nets ≡ netsAnswer (p .vault0) (p .vault1) (p .fees)) where
+    pub worth-no-nets : {n : ℕ} → nets ≡ N.Refused n → Refused n ≡ worthOf direction p lp
+    unfolding netsWorth
+    worth-no-nets e = ap (netsWorth direction (p .supply) lp) (sym e ∙ of-nets) ∙ worth-answer
+
+    module _ {n0 n1 : ℕ} (e : nets ≡ N.Of n0 n1) {tokens : TradingTokenResult} (of-tokens : tokens ≡ tokenAmounts direction lp (p .supply) n0 n1) where
+      worth-of : tokensWorth n0 n1 tokens ≡ worthOf direction p lp
+      unfolding netsWorth
+      worth-of = ap (tokensWorth n0 n1) of-tokens ∙ ap (netsWorth direction (p .supply) lp) (sym e ∙ of-nets) ∙ worth-answer
+
+      pub worth-no-tokens : {n : ℕ} → tokens ≡ T.Refused n → Refused n ≡ worthOf direction p lp
+      unfolding tokensWorth
+      worth-no-tokens f = ap (tokensWorth n0 n1) (sym f) ∙ worth-of
+
+      pub worth-tokens :
+          {a0 a1 : TradingTokens} → tokens ≡ T.Amounts a0 a1
+          → Of (record { net0 = n0; net1 = n1; amount0 = a0 .0; amount1 = a1 .0 }) ≡ worthOf direction p lp
+      unfolding tokensWorth
+      worth-tokens f = ap (tokensWorth n0 n1) (sym f) ∙ worth-of
 
   -- a worth's nets lie within the vaults
   Within : WorthAnswer → Type 0

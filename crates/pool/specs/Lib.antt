@@ -3,6 +3,7 @@ pub mod Opening
 pub mod Swap
 pub mod SwapBaseInput
 pub mod SwapBaseOutput
+pub mod Swaps
 pub mod Liquidity
 pub mod Prices
 pub mod Status

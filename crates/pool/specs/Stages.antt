@@ -1,12 +1,14 @@
 -- What the private steps of this crate answer. No public definition rests on these.
 use Prim.Native.Nat.{ℕ, _+_, _≤_, _<_}
-use mathlib.Core.Bool.{Bool, cond}
+use mathlib.Core.Bool.{Bool, true, false, cond}
 use mathlib.Core.List.{[], _∷_}
 use lib.Dec.{ltb, eqb}
 use Rattle.refusal.specs.Refusal.{ZeroTradingTokens, ExceededSlippage}
-use Rattle.refusal.specs.Tests.{_then_, outcome}
+use Rattle.refusal.specs.Tests.{Tests, _then_, outcome}
 use Rattle.curve.specs.Fees.{Million}
-use Rattle.curve.specs.Calculator.{onInput, noSplit, quoteTests, swapBaseInput as inputWithFees, swapBaseOutput as outputWithFees}
+use Rattle.curve.specs.Calculator.{onInput, noSplit, quoteTests, inputAnswer, outputAnswer, swapBaseInput as inputWithFees, swapBaseOutput as outputWithFees}
+use Rattle.curve.specs.declared.calculator.Rates.{Rates}
+use Rattle.curve.specs.declared.calculator.SwapAnswer.{SwapAnswer}
 use Rattle.accounting.specs.Counters.{counters0, counters1}
 use Rattle.curve.specs.declared.answer.Answer.{Answer}
 use Rattle.curve.specs.declared.answer.Answer.the-variants.{Amount, Refused}
@@ -28,7 +30,8 @@ use Rattle.pool.specs.State.{net0, net1, creatorRate, refused, decided, 
 use Rattle.pool.specs.Liquidity.{amountTests}
 use Rattle.pool.specs.Settlement.{paymentTests, settled}
 use Rattle.pool.specs.Swap.{netIn, netOut, netTests, payTests, paidPool, bookTests, swapReceipt, swapped, decidedSwap}
-use Rattle.pool.specs.SwapBaseInput.{minimumTests}
+use Rattle.pool.specs.SwapBaseInput.{inputFront, minimumTests}
+use Rattle.pool.specs.SwapBaseOutput.{outputFront}
 
 -- a refused swap: nothing is to be written
 unfoldable pub refusedSwap : Pool → ℕ → Decision
@@ -83,6 +86,28 @@ outputQuoted zeroIn p entries amount maximum clock =
     then bookTests zeroIn feeOnInput s p entries clock))
     p entries
     (swapped 3 zeroIn feeOnInput s p entries clock)
+
+-- ---- both swaps, by input or not
+abbrev pub kindOf : Bool → ℕ
+kindOf true = 2
+kindOf false = 3
+
+abbrev pub swapFront : Bool → Pool → ℕ → ℕ → ℕ → Tests
+swapFront true p direction amount clock = inputFront p direction amount clock
+swapFront false p direction amount clock = outputFront p direction amount clock
+
+abbrev pub quoteAnswer : Bool → Bool → Rates → ℕ → ℕ → ℕ → ℕ → SwapAnswer
+quoteAnswer true feeOnInput rates creatorRate netIn netOut amount = inputAnswer feeOnInput rates creatorRate netIn netOut amount
+quoteAnswer false feeOnInput rates creatorRate netIn netOut amount = outputAnswer feeOnInput rates creatorRate netIn netOut amount
+
+-- by input: output 0, 10; output below the limit, 2. By output: input above the limit, 2
+abbrev pub slippageTests : Bool → ℕ → ℕ → ℕ → Tests
+slippageTests true input output limit = minimumTests output limit
+slippageTests false input output limit = (ltb limit input, ExceededSlippage) ∷ []
+
+abbrev pub swapQuoted : Bool → Bool → Pool → Entries → ℕ → ℕ → ℕ → Done
+swapQuoted true zeroIn p entries amount limit clock = inputQuoted zeroIn p entries amount limit clock
+swapQuoted false zeroIn p entries amount limit clock = outputQuoted zeroIn p entries amount limit clock
 
 -- none, or an amount of 0
 unfoldable pub isNone : Answer → Bool

@@ -1,10 +1,12 @@
 // Deposit: tokens of both kinds for new LP tokens.
-use crate::liquidity::WorthAnswer;
+use crate::liquidity::token_amounts;
 use crate::receipt::amounts_receipt;
 use crate::state::After;
 use crate::state::Pool;
+use accounting::Nets;
 use curve::constant_product::LpTokens;
 use curve::constant_product::RoundDirection;
+use curve::constant_product::TradingTokenResult;
 use curve::constant_product::TradingTokens;
 use refusal::ACCEPTED;
 use refusal::EXCEEDED_SLIPPAGE;
@@ -94,15 +96,25 @@ impl Pool {
         if number != ACCEPTED {
             return self.refuse(number);
         }
-        match self.worth(lp, RoundDirection::Ceiling) {
-            WorthAnswer::Refused(number) => self.refuse(number),
-            WorthAnswer::Of(worth) => self.deposit_at(
-                lp.0,
-                worth.amount0,
-                worth.amount1,
-                maximum0.0,
-                maximum1.0,
-            ),
+        let supply = LpTokens(self.supply);
+        match self.nets() {
+            Nets::Refused(number) => self.refuse(number),
+            Nets::Of(net0, net1) => match token_amounts(
+                lp,
+                supply,
+                TradingTokens(net0),
+                TradingTokens(net1),
+                RoundDirection::Ceiling,
+            ) {
+                TradingTokenResult::Refused(number) => self.refuse(number),
+                TradingTokenResult::Amounts(amount0, amount1) => self.deposit_at(
+                    lp.0,
+                    amount0.0,
+                    amount1.0,
+                    maximum0.0,
+                    maximum1.0,
+                ),
+            },
         }
     }
 }

@@ -1,5 +1,6 @@
 // The pool: its record, its receipts, and the calls.
 pub mod creator_fee_share;
+pub mod decide;
 pub mod deposit;
 pub mod liquidity;
 pub mod opening;

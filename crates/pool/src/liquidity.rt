@@ -49,7 +49,8 @@ fn some_tokens(amount0: Answer, amount1: Answer) -> TradingTokenResult
     both(amount0, amount1)
 }
 
-fn token_amounts(
+// Both tokens' parts of an LP amount: none or an amount 0, 4; an amount past u64, 11.
+pub(crate) fn token_amounts(
     lp: LpTokens,
     supply: LpTokens,
     net0: TradingTokens,

@@ -11,6 +11,7 @@ ghost use Rattle.accounting.specs.Counters.{netsAnswer};
 ghost use Rattle.pool.specs.State.{refused};
 
 // Bits 0, 1 and 2 of the status close deposits, withdrawals and swaps. The ring's entries are lent beside the pool.
+// The flag stands last, and the ring's too, so that all other fields are copied as whole numbers.
 pub struct Pool {
     pub vault0: u64,
     pub vault1: u64,
@@ -19,9 +20,9 @@ pub struct Pool {
     pub status: u64,
     pub open_time: u64,
     pub fee_model: u64,
-    pub enabled: bool,
     pub rates: Rates,
     pub ring: Ring,
+    pub enabled: bool,
 }
 
 // What a call gives: the pool after it, and its receipt.

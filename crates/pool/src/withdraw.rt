@@ -1,10 +1,12 @@
 // Withdrawal: LP tokens for tokens of both kinds.
-use crate::liquidity::WorthAnswer;
+use crate::liquidity::token_amounts;
 use crate::receipt::amounts_receipt;
 use crate::state::After;
 use crate::state::Pool;
+use accounting::Nets;
 use curve::constant_product::LpTokens;
 use curve::constant_product::RoundDirection;
+use curve::constant_product::TradingTokenResult;
 use curve::constant_product::TradingTokens;
 use refusal::ACCEPTED;
 use refusal::EXCEEDED_SLIPPAGE;
@@ -96,13 +98,23 @@ impl Pool {
         if number != ACCEPTED {
             return self.refuse(number);
         }
-        match self.worth(lp, RoundDirection::Floor) {
-            WorthAnswer::Refused(number) => self.refuse(number),
-            WorthAnswer::Of(worth) => {
-                let paid0 = capped(worth.net0, worth.amount0);
-                let paid1 = capped(worth.net1, worth.amount1);
-                self.withdraw_at(lp.0, paid0, paid1, minimum0.0, minimum1.0)
-            }
+        let supply = LpTokens(self.supply);
+        match self.nets() {
+            Nets::Refused(number) => self.refuse(number),
+            Nets::Of(net0, net1) => match token_amounts(
+                lp,
+                supply,
+                TradingTokens(net0),
+                TradingTokens(net1),
+                RoundDirection::Floor,
+            ) {
+                TradingTokenResult::Refused(number) => self.refuse(number),
+                TradingTokenResult::Amounts(amount0, amount1) => {
+                    let paid0 = capped(net0, amount0.0);
+                    let paid1 = capped(net1, amount1.0);
+                    self.withdraw_at(lp.0, paid0, paid1, minimum0.0, minimum1.0)
+                }
+            },
         }
     }
 }
