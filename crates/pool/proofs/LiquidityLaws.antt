@@ -19,13 +19,10 @@ use Rattle.curve.specs.ConstantProduct.{lpAmount, lpPart, tokens}
 use Rattle.accounting.specs.declared.Nets.{Nets}
 use Rattle.accounting.specs.declared.Nets.the-variants as N
 use Rattle.accounting.specs.Counters.{counterTests, netsAnswer}
-use Rattle.pool.specs.declared.liquidity.Worth.{Worth}
-use Rattle.pool.specs.declared.liquidity.WorthAnswer.{WorthAnswer}
-use Rattle.pool.specs.declared.liquidity.WorthAnswer.the-variants.{Of, Refused}
 use Rattle.pool.specs.declared.state.Pool.{Pool}
 use Rattle.pool.specs.declared.state.After.{After}
 use Rattle.pool.specs.State.{net0, net1, refused, decided}
-use Rattle.pool.specs.Liquidity.{amountTests, worthOf}
+use Rattle.pool.specs.Liquidity.{amountTests}
 use Rattle.pool.specs.Stages.{isNone, someTokens, tokenAmounts}
 
 -- ---- both tokens' parts, which are to be some
@@ -59,7 +56,31 @@ some-tokens direction lp supply n0 n1 =
     let a1 = lpAmount direction lp supply n1 in
     some-parts (eqb supply 0) (past a0) (past a1) a0 a1 (past-some a0) (past-some a1)
 
--- ---- an LP amount's worth
+-- ---- an LP amount's worth: the nets, and its part of each
+pub record Worth : Type 0 where
+  pub net0 : ℕ
+  pub net1 : ℕ
+  pub amount0 : ℕ
+  pub amount1 : ℕ
+
+pub data WorthAnswer : Type 0 where
+  Of : Worth → WorthAnswer
+  Refused : ℕ → WorthAnswer
+
+-- 8, 7; none or an amount 0, 4; an amount past u64, 11; else the worth
+unfoldable pub worthOf : RoundDirection → Pool → ℕ → WorthAnswer
+worthOf direction p lp =
+    outcome
+    (counterTests (p .vault0) (p .vault1) (p .fees)
+    then amountTests (lpAmount direction lp (p .supply) (net0 p)) (lpAmount direction lp (p .supply) (net1 p)) (p .supply))
+    Refused
+    (Of (record {
+      net0 = net0 p;
+      net1 = net1 p;
+      amount0 = lpAmount direction lp (p .supply) (net0 p);
+      amount1 = lpAmount direction lp (p .supply) (net1 p);
+    }))
+
 -- what the two answers on the way, the nets and the amounts, come to
 unfoldable pub tokensWorth : ℕ → ℕ → TradingTokenResult → WorthAnswer
 tokensWorth n0 n1 (T.Refused number) = Refused number

@@ -4,13 +4,11 @@ use mathlib.Core.Bool.{Bool}
 use mathlib.Core.List.{[], _∷_}
 use lib.Dec.{ltb, eqb}
 use Rattle.refusal.specs.Refusal.{RequireViolated, NotApproved, ZeroTradingTokens, Panic, ExceededSlippage, MathOverflow}
-use Rattle.refusal.specs.Tests.{Tests, _then_, past, outcome}
+use Rattle.refusal.specs.Tests.{Tests, _then_, past}
 use Rattle.curve.specs.declared.constant_product.RoundDirection.{RoundDirection}
 use Rattle.curve.specs.declared.constant_product.RoundDirection.the-variants.{Floor, Ceiling}
 use Rattle.curve.specs.ConstantProduct.{lpAmount}
 use Rattle.accounting.specs.Counters.{counterTests}
-use Rattle.pool.specs.declared.liquidity.WorthAnswer.{WorthAnswer}
-use Rattle.pool.specs.declared.liquidity.WorthAnswer.the-variants.{Of, Refused}
 use Rattle.pool.specs.declared.state.Pool.{Pool}
 use Rattle.pool.specs.declared.state.After.{After}
 use Rattle.pool.specs.State.{net0, net1, bit, withBooks, amounts, decided}
@@ -24,21 +22,6 @@ amountTests amount0 amount1 supply =
     ∷ (past amount0, Panic)
     ∷ (past amount1, Panic)
     ∷ []
-
--- ---- an LP amount's worth
--- of a pool: 8, 7; none or an amount 0, 4; an amount past u64, 11; else the nets and the amounts
-unfoldable pub worthOf : RoundDirection → Pool → ℕ → WorthAnswer
-worthOf direction p lp =
-    outcome
-    (counterTests (p .vault0) (p .vault1) (p .fees)
-    then amountTests (lpAmount direction lp (p .supply) (net0 p)) (lpAmount direction lp (p .supply) (net1 p)) (p .supply))
-    Refused
-    (Of (record {
-      net0 = net0 p;
-      net1 = net1 p;
-      amount0 = lpAmount direction lp (p .supply) (net0 p);
-      amount1 = lpAmount direction lp (p .supply) (net1 p);
-    }))
 
 -- ---- deposit
 -- lp 0, 10; bit 0 set, 1

@@ -1,6 +1,4 @@
 // What deposits and withdrawals share: an LP amount's worth in both tokens.
-use crate::state::Pool;
-use accounting::Nets;
 use curve::answer::Answer;
 use curve::constant_product::LpTokens;
 use curve::constant_product::RoundDirection;
@@ -10,21 +8,7 @@ use curve::constant_product::both;
 use curve::constant_product::lp_tokens_to_one_token;
 use refusal::ZERO_TRADING_TOKENS;
 ghost use mathlib.Core.Path.{_≡_};
-ghost use Rattle.pool.specs.Liquidity.{worthOf};
 ghost use Rattle.pool.specs.Stages.{isNone, someTokens, tokenAmounts};
-
-// The nets, and an LP amount's part of each.
-pub struct Worth {
-    pub net0: u64,
-    pub net1: u64,
-    pub amount0: u64,
-    pub amount1: u64,
-}
-
-pub enum WorthAnswer {
-    Of(Worth),
-    Refused(u64),
-}
 
 // None, or an amount of 0.
 fn is_none(answer: Answer) -> bool
@@ -62,31 +46,4 @@ pub(crate) fn token_amounts(
     let amount0 = lp_tokens_to_one_token(lp, supply, net0, direction);
     let amount1 = lp_tokens_to_one_token(lp, supply, net1, direction);
     some_tokens(amount0, amount1)
-}
-
-impl Pool {
-    // 8, 7; none or an amount 0, 4; an amount past u64, 11.
-    pub fn worth(self, lp: LpTokens, direction: RoundDirection) -> WorthAnswer
-        ensures { λ r. ⌜ r ≡ worthOf direction self (lp .0) ⌝ }
-    {
-        let supply = self.supply;
-        match self.nets() {
-            Nets::Refused(number) => WorthAnswer::Refused(number),
-            Nets::Of(net0, net1) => match token_amounts(
-                lp,
-                LpTokens(supply),
-                TradingTokens(net0),
-                TradingTokens(net1),
-                direction,
-            ) {
-                TradingTokenResult::Refused(number) => WorthAnswer::Refused(number),
-                TradingTokenResult::Amounts(amount0, amount1) => WorthAnswer::Of(Worth {
-                    net0,
-                    net1,
-                    amount0: amount0.0,
-                    amount1: amount1.0,
-                }),
-            },
-        }
-    }
 }

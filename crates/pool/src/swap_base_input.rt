@@ -1,7 +1,6 @@
 // Swap by input: an exact amount in, at least a minimum out.
 use crate::state::After;
 use crate::state::Pool;
-use crate::swap::Decision;
 use crate::swap::closed_number;
 use curve::calculator::limit_number;
 use oracle::store;
@@ -11,7 +10,6 @@ use refusal::INVALID_VAULT;
 use refusal::REQUIRE_VIOLATED;
 ghost use mathlib.Core.Path.{_≡_};
 ghost use Rattle.refusal.specs.Tests.{first};
-ghost use Rattle.pool.specs.Swap.{doneOf};
 ghost use Rattle.pool.specs.State.{done};
 ghost use Rattle.pool.specs.SwapBaseInput.{inputFront, minimumTests, swapBaseInput};
 
@@ -51,20 +49,6 @@ pub(crate) fn minimum_number(output: u64, minimum: u64) -> u64
 }
 
 impl Pool {
-    // All of a swap by input but the writing.
-    pub fn decide_input(
-        self,
-        entries: &[u64; 500],
-        direction: u64,
-        amount: u64,
-        minimum: u64,
-        clock: u64,
-    ) -> Decision
-        ensures { λ r. ⌜ doneOf (now (entries .entry)) r ≡ swapBaseInput self (now (entries .entry)) direction amount minimum clock ⌝ }
-    {
-        self.decide(entries, true, direction, amount, minimum, clock)
-    }
-
     pub fn swap_base_input(
         self,
         entries: &mut [u64; 500],
@@ -75,7 +59,7 @@ impl Pool {
     ) -> After
         ensures { λ r. ⌜ done r (now (entries .exit)) ≡ swapBaseInput self (now (entries .entry)) direction amount minimum clock ⌝ }
     {
-        let decision = self.decide_input(entries, direction, amount, minimum, clock);
+        let decision = self.decide(entries, true, direction, amount, minimum, clock);
         let update = decision.update;
         store(entries, update);
         decision.after

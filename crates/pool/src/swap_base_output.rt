@@ -1,7 +1,6 @@
 // Swap by output: at most a maximum in, an exact amount out.
 use crate::state::After;
 use crate::state::Pool;
-use crate::swap::Decision;
 use crate::swap::closed_number;
 use curve::calculator::limit_number;
 use oracle::store;
@@ -10,7 +9,6 @@ use refusal::INVALID_VAULT;
 use refusal::REQUIRE_VIOLATED;
 ghost use mathlib.Core.Path.{_≡_};
 ghost use Rattle.refusal.specs.Tests.{first};
-ghost use Rattle.pool.specs.Swap.{doneOf};
 ghost use Rattle.pool.specs.State.{done};
 ghost use Rattle.pool.specs.SwapBaseOutput.{outputFront, swapBaseOutput};
 
@@ -37,20 +35,6 @@ pub(crate) fn output_front(pool: Pool, direction: u64, amount: u64, clock: u64) 
 }
 
 impl Pool {
-    // All of a swap by output but the writing.
-    pub fn decide_output(
-        self,
-        entries: &[u64; 500],
-        direction: u64,
-        amount: u64,
-        maximum: u64,
-        clock: u64,
-    ) -> Decision
-        ensures { λ r. ⌜ doneOf (now (entries .entry)) r ≡ swapBaseOutput self (now (entries .entry)) direction amount maximum clock ⌝ }
-    {
-        self.decide(entries, false, direction, amount, maximum, clock)
-    }
-
     pub fn swap_base_output(
         self,
         entries: &mut [u64; 500],
@@ -61,7 +45,7 @@ impl Pool {
     ) -> After
         ensures { λ r. ⌜ done r (now (entries .exit)) ≡ swapBaseOutput self (now (entries .entry)) direction amount maximum clock ⌝ }
     {
-        let decision = self.decide_output(entries, direction, amount, maximum, clock);
+        let decision = self.decide(entries, false, direction, amount, maximum, clock);
         let update = decision.update;
         store(entries, update);
         decision.after

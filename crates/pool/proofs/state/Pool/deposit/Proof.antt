@@ -6,13 +6,11 @@ use Rattle.refusal.proofs.Stops.{first-stage, outcome-stop}
 use Rattle.curve.specs.declared.constant_product.RoundDirection.the-variants.{Ceiling}
 use Rattle.curve.specs.declared.constant_product.TradingTokenResult.the-variants as T
 use Rattle.accounting.specs.declared.Nets.the-variants as N
-use Rattle.pool.specs.declared.liquidity.Worth.{Worth}
-use Rattle.pool.specs.declared.liquidity.WorthAnswer.{WorthAnswer}
 use Rattle.pool.specs.declared.state.Pool.{Pool}
 use Rattle.pool.specs.declared.state.After.{After}
 use Rattle.pool.specs.State.{decided}
-use Rattle.pool.specs.Liquidity.{worthOf, depositFront, depositLast, depositTests, deposited, depositAt, deposit}
-use Rattle.pool.proofs.LiquidityLaws.{worth-no-nets, worth-no-tokens, worth-tokens, onWorth, past-front}
+use Rattle.pool.specs.Liquidity.{depositFront, depositLast, depositTests, deposited, depositAt, deposit}
+use Rattle.pool.proofs.LiquidityLaws.{Worth, WorthAnswer, worthOf, worth-no-nets, worth-no-tokens, worth-tokens, onWorth, past-front}
 use borrow.Author.Needs.{needs}
 use Rattle.pool.proofs.state.Pool.deposit.Statement.{statement}
 use Rattle.pool.proofs.state.Pool.deposit.Tie as tie

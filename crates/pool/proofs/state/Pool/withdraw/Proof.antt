@@ -6,14 +6,11 @@ use Rattle.refusal.proofs.Stops.{first-stage, outcome-stop}
 use Rattle.curve.specs.declared.constant_product.RoundDirection.the-variants.{Floor}
 use Rattle.curve.specs.declared.constant_product.TradingTokenResult.the-variants as T
 use Rattle.accounting.specs.declared.Nets.the-variants as N
-use Rattle.pool.specs.declared.liquidity.Worth.{Worth}
-use Rattle.pool.specs.declared.liquidity.WorthAnswer.{WorthAnswer}
-use Rattle.pool.specs.declared.liquidity.WorthAnswer.the-variants.{Of}
 use Rattle.pool.specs.declared.state.Pool.{Pool}
 use Rattle.pool.specs.declared.state.After.{After}
 use Rattle.pool.specs.State.{decided}
-use Rattle.pool.specs.Liquidity.{worthOf, withdrawFront, withdrawLast, withdrawTests, withdrawn, withdrawAt, withdraw}
-use Rattle.pool.proofs.LiquidityLaws.{worth-no-nets, worth-no-tokens, worth-tokens, nets-within, capped-within, onWorth, past-front}
+use Rattle.pool.specs.Liquidity.{withdrawFront, withdrawLast, withdrawTests, withdrawn, withdrawAt, withdraw}
+use Rattle.pool.proofs.LiquidityLaws.{Worth, WorthAnswer, worthOf, Of, worth-no-nets, worth-no-tokens, worth-tokens, nets-within, capped-within, onWorth, past-front}
 use borrow.Author.Needs.{needs}
 use Rattle.pool.proofs.state.Pool.withdraw.Statement.{statement}
 use Rattle.pool.proofs.state.Pool.withdraw.Tie as tie
