@@ -3,7 +3,7 @@
 use mathlib.Core.Path.{_≡_}
 use mathlib.Core.List.{List, [], _∷_}
 use Rattle.oracle.specs.Ring.{Entries}
-use Rattle.pool.specs.declared.receipt.Receipt.{Receipt}
+use Rattle.receipt.specs.declared.Receipt.{Receipt}
 use Rattle.pool.specs.declared.state.After.{After}
 use Rattle.pool.specs.State.{done}
 use Rattle.history.specs.declared.call.Call.{Call}

@@ -18,7 +18,8 @@ use Rattle.accounting.specs.Booking.{pastTests, bookingTests}
 use Rattle.oracle.specs.Ring.{Entries, ringTests}
 use Rattle.pool.specs.declared.state.Pool.{Pool}
 use Rattle.pool.specs.declared.state.After.{After}
-use Rattle.pool.specs.State.{net0, net1, creatorRate, refused, decided, amounts, Done}
+use Rattle.receipt.specs.Receipt.{amounts}
+use Rattle.pool.specs.State.{net0, net1, creatorRate, refused, decided, Done}
 use Rattle.pool.specs.Swap.{netIn, netOut, closedTests, modelTests, netTests, bookTests, swapReceipt, swapped}
 use Rattle.pool.specs.SwapBaseInput.{inputFront, minimumTests, inputTests, inputAt, swapBaseInput}
 use Rattle.pool.specs.SwapBaseOutput.{outputFront, outputTests, outputAt, swapBaseOutput}

@@ -9,7 +9,8 @@ use Rattle.curve.specs.Calculator.{rateLimits, onInput, swapBaseInput as inputW
 use Rattle.accounting.specs.Counters.{counterTests}
 use Rattle.accounting.specs.Booking.{booked, pastTests, bookingTests}
 use Rattle.oracle.specs.Ring.{entryAt, withEntry, price, ringTests, updated}
-use Rattle.pool.specs.State.{bit, refusal, refused, withBooks, amounts}
+use Rattle.receipt.specs.Receipt.{refusal, amounts}
+use Rattle.pool.specs.State.{bit, refused, withBooks}
 use Rattle.pool.specs.Opening.{rateTests, zeroEntries, openPool, zeroPool, openingFront, openingTests, opening}
 use Rattle.pool.specs.Swap.{closedTests, modelTests, netTests, bookTests, bookedPool, swapReceipt, swapped}
 use Rattle.pool.specs.SwapBaseInput.{inputFront, minimumTests, inputTests, inputAt, swapBaseInput}

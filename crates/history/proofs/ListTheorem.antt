@@ -13,8 +13,9 @@ use Rattle.math.proofs.WholeRoot.{root-square}
 use Rattle.refusal.proofs.Stops.{Passed, outcome-elim}
 use Rattle.curve.specs.declared.calculator.Rates.{Rates}
 use Rattle.oracle.specs.Ring.{entryAt}
-use Rattle.pool.specs.declared.receipt.Receipt.{Receipt}
-use Rattle.pool.specs.State.{refusal, refused}
+use Rattle.receipt.specs.declared.Receipt.{Receipt}
+use Rattle.receipt.specs.Receipt.{refusal}
+use Rattle.pool.specs.State.{refused}
 use Rattle.pool.specs.Opening.{zeroEntries, openPool, opening}
 use Rattle.history.specs.declared.call.Call.{Call}
 use Rattle.history.specs.declared.call.Call.the-variants.{SwapBaseInput, SwapBaseOutput, Deposit, Withdraw, Settle, SetStatus}

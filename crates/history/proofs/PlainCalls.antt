@@ -16,7 +16,8 @@ use Rattle.curve.specs.declared.constant_product.RoundDirection.the-variants.{F
 use Rattle.curve.specs.Fees.{Million, feeDown}
 use Rattle.curve.specs.ConstantProduct.{lpAmount}
 use Rattle.accounting.specs.Counters.{counterTests}
-use Rattle.pool.specs.State.{withBooks, amounts}
+use Rattle.receipt.specs.Receipt.{amounts}
+use Rattle.pool.specs.State.{withBooks}
 use Rattle.pool.specs.Liquidity.{amountTests, depositFront, depositLast, depositTests, withdrawFront, withdrawLast, withdrawTests}
 use Rattle.pool.specs.Settlement.{paymentTests, settlementTests, settledCounters, settlementReceipt}
 use Rattle.pool.specs.Status.{withStatus}

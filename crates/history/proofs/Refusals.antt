@@ -8,7 +8,8 @@ use borrow.Author.Tests.{eqb-true, eqb-false}
 use Rattle.refusal.specs.Tests.{first}
 use Rattle.refusal.proofs.Stops.{Passed, outcome-go, outcome-stop, first-passed}
 use Rattle.curve.specs.declared.calculator.Rates.{Rates}
-use Rattle.pool.specs.State.{refusal, refused, Done}
+use Rattle.receipt.specs.Receipt.{refusal}
+use Rattle.pool.specs.State.{refused, Done}
 use Rattle.pool.specs.Opening.{opening}
 use Rattle.history.specs.declared.call.Call.{Call}
 use Rattle.history.specs.Run.{State, next, left}

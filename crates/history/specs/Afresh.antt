@@ -8,7 +8,7 @@ use Rattle.accounting.specs.declared.FeeCounters.{FeeCounters}
 use Rattle.accounting.specs.Counters.{counters0, counters1, zeroCounters}
 use Rattle.accounting.specs.Booking.{booked}
 use Rattle.oracle.specs.Ring.{price, added}
-use Rattle.pool.specs.declared.receipt.Receipt.{Receipt}
+use Rattle.receipt.specs.declared.Receipt.{Receipt}
 
 -- the two vaults, the six fee counters, the LP supply and the newest price sums
 pub record Books : Type 0 where

@@ -21,7 +21,7 @@ use Rattle.oracle.specs.declared.Update.{Update}
 use Rattle.oracle.specs.Ring.{Entries, Updated, price, ringTests, updated}
 use Rattle.oracle.specs.Update.{Answered, answered, update, answerOf, storedIn, afterOf}
 use Rattle.oracle.proofs.Steps.{left-by}
-use Rattle.pool.specs.declared.receipt.Receipt.{Receipt}
+use Rattle.receipt.specs.declared.Receipt.{Receipt}
 use Rattle.pool.specs.declared.state.Pool.{Pool}
 use Rattle.pool.specs.declared.swap.Decision.{Decision}
 use Rattle.pool.specs.State.{net0, net1, refused, withBooks, Done}

@@ -11,7 +11,8 @@ use Rattle.curve.specs.ConstantProduct.{lpAmount}
 use Rattle.accounting.specs.Counters.{counterTests}
 use Rattle.pool.specs.declared.state.Pool.{Pool}
 use Rattle.pool.specs.declared.state.After.{After}
-use Rattle.pool.specs.State.{net0, net1, bit, withBooks, amounts, decided}
+use Rattle.receipt.specs.Receipt.{amounts}
+use Rattle.pool.specs.State.{net0, net1, bit, withBooks, decided}
 
 -- none or an amount 0, 4; an amount past u64, 11
 unfoldable pub amountTests : ℕ → ℕ → ℕ → Tests

@@ -14,7 +14,8 @@ use Rattle.accounting.specs.Counters.{zeroCounters}
 use Rattle.oracle.specs.declared.Ring.{Ring}
 use Rattle.oracle.specs.Ring.{Entries}
 use Rattle.pool.specs.declared.state.Pool.{Pool}
-use Rattle.pool.specs.State.{decided, amounts, Done}
+use Rattle.receipt.specs.Receipt.{amounts}
+use Rattle.pool.specs.State.{decided, Done}
 
 -- opening's limits on trade + creator and protocol + fund, whether creator fees are enabled or not, 3
 abbrev pub limitTests : Rates → Tests

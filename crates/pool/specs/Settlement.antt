@@ -6,7 +6,7 @@ use Rattle.refusal.specs.Refusal.{InvalidInput, MathOverflow, InsufficientVault
 use Rattle.refusal.specs.Tests.{Tests, past}
 use Rattle.curve.specs.Fees.{Million, feeDown}
 use Rattle.accounting.specs.declared.FeeCounters.{FeeCounters}
-use Rattle.pool.specs.declared.receipt.Receipt.{Receipt}
+use Rattle.receipt.specs.declared.Receipt.{Receipt}
 use Rattle.pool.specs.declared.state.Pool.{Pool}
 use Rattle.pool.specs.declared.state.After.{After}
 use Rattle.pool.specs.State.{withBooks, decided}

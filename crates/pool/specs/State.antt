@@ -9,7 +9,7 @@ use Rattle.accounting.specs.declared.FeeCounters.{FeeCounters}
 use Rattle.accounting.specs.Counters.{counters0, counters1}
 use Rattle.oracle.specs.declared.Ring.{Ring}
 use Rattle.oracle.specs.Ring.{Entries}
-use Rattle.pool.specs.declared.receipt.Receipt.{Receipt}
+use Rattle.receipt.specs.Receipt.{refusal}
 use Rattle.pool.specs.declared.state.Pool.{Pool}
 use Rattle.pool.specs.declared.state.After.{After}
 
@@ -29,26 +29,6 @@ abbrev pub creatorRate : Pool → ℕ
 creatorRate p = cond (p .enabled) (p .rates .creator) 0
 
 -- ---- refusals: the number and zeros, the pool and the ring as they were
-unfoldable pub refusal : ℕ → Receipt
-refusal n = record {
-  number = n;
-  kind = 0;
-  direction = 0;
-  clock = 0;
-  in0 = 0;
-  in1 = 0;
-  out0 = 0;
-  out1 = 0;
-  lp = 0;
-  «trade_fee» = 0;
-  «protocol_fee» = 0;
-  «fund_fee» = 0;
-  «creator_fee» = 0;
-  «creator_fee_token» = 0;
-  shared0 = 0;
-  shared1 = 0;
-}
-
 unfoldable pub refused : Pool → ℕ → After
 refused p n = record { pool = p; receipt = refusal n }
 
@@ -78,24 +58,3 @@ pub record Done : Type 0 where
 
 abbrev pub done : After → Entries → Done
 done a entries = record { after = a; entries = entries }
-
--- a receipt of amounts and LP alone, for the calls without fees
-unfoldable pub amounts : ℕ → ℕ → ℕ → ℕ → ℕ → ℕ → Receipt
-amounts kind in0 in1 out0 out1 lp = record {
-  number = 0;
-  kind = kind;
-  direction = 0;
-  clock = 0;
-  in0 = in0;
-  in1 = in1;
-  out0 = out0;
-  out1 = out1;
-  lp = lp;
-  «trade_fee» = 0;
-  «protocol_fee» = 0;
-  «fund_fee» = 0;
-  «creator_fee» = 0;
-  «creator_fee_token» = 0;
-  shared0 = 0;
-  shared1 = 0;
-}

@@ -6,7 +6,8 @@ use Rattle.refusal.specs.Refusal.{InvalidInput}
 use Rattle.refusal.specs.Tests.{Tests}
 use Rattle.pool.specs.declared.state.Pool.{Pool}
 use Rattle.pool.specs.declared.state.After.{After}
-use Rattle.pool.specs.State.{amounts, decided}
+use Rattle.receipt.specs.Receipt.{amounts}
+use Rattle.pool.specs.State.{decided}
 
 -- flag 0 clears the bit, 1 sets it; the others stay
 unfoldable pub flagged : ℕ → ℕ → ℕ → ℕ

@@ -12,7 +12,7 @@ use Rattle.accounting.specs.Booking.{creatorToken, booked, bookingTests}
 use Rattle.oracle.specs.declared.Ring.{Ring}
 use Rattle.oracle.specs.Ring.{Entries, Updated, price, ringTests, updated}
 use Rattle.oracle.specs.Update.{storedIn}
-use Rattle.pool.specs.declared.receipt.Receipt.{Receipt}
+use Rattle.receipt.specs.declared.Receipt.{Receipt}
 use Rattle.pool.specs.declared.state.Pool.{Pool}
 use Rattle.pool.specs.declared.swap.Decision.{Decision}
 use Rattle.pool.specs.State.{net0, net1, bit, refused, withBooks, Done}

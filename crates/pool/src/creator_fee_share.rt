@@ -1,11 +1,11 @@
 // Settlement: the creators are paid out of the vaults, and the protocol gets its share (the original's creator_fee_share.rs and settle_creator_fee).
-use crate::receipt::Receipt;
-use crate::receipt::refusal_receipt;
 use crate::state::After;
 use crate::state::Pool;
 use accounting::FeeCounters;
 use curve::fees::FEE_RATE_DENOMINATOR_VALUE;
 use math::share::share_floor;
+use receipt::Receipt;
+use receipt::refusal_receipt;
 use refusal::ACCEPTED;
 use refusal::INSUFFICIENT_VAULT;
 use refusal::INVALID_INPUT;

@@ -1,6 +1,5 @@
 // Deposit: tokens of both kinds for new LP tokens.
 use crate::liquidity::token_amounts;
-use crate::receipt::amounts_receipt;
 use crate::state::After;
 use crate::state::Pool;
 use accounting::Nets;
@@ -8,6 +7,7 @@ use curve::constant_product::LpTokens;
 use curve::constant_product::RoundDirection;
 use curve::constant_product::TradingTokenResult;
 use curve::constant_product::TradingTokens;
+use receipt::amounts_receipt;
 use refusal::ACCEPTED;
 use refusal::EXCEEDED_SLIPPAGE;
 use refusal::MATH_OVERFLOW;

@@ -1,11 +1,10 @@
-// The pool: its record, its receipts, and the calls.
+// The pool: its record and the calls.
 pub mod creator_fee_share;
 pub mod decide;
 pub mod deposit;
 pub mod liquidity;
 pub mod opening;
 pub mod prices;
-pub mod receipt;
 pub mod state;
 pub mod status;
 pub mod swap;

@@ -1,5 +1,4 @@
 // Opening: a new pool from two amounts.
-use crate::receipt::amounts_receipt;
 use crate::state::After;
 use crate::state::Opened;
 use crate::state::Pool;
@@ -10,6 +9,7 @@ use curve::fees::FEE_RATE_DENOMINATOR_VALUE;
 use math::root::isqrt;
 use math::wide::widening_mul;
 use oracle::Ring;
+use receipt::amounts_receipt;
 use refusal::ACCEPTED;
 use refusal::EMPTY_SUPPLY;
 use refusal::INIT_LP_AMOUNT_TOO_LESS;

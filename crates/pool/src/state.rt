@@ -1,11 +1,11 @@
 // The pool's record (the original's states/pool.rs, with its vaults, rates and ring).
-use crate::receipt::Receipt;
-use crate::receipt::refusal_receipt;
 use accounting::FeeCounters;
 use accounting::Nets;
 use accounting::vault_amount_without_fee;
 use curve::calculator::Rates;
 use oracle::Ring;
+use receipt::Receipt;
+use receipt::refusal_receipt;
 ghost use mathlib.Core.Path.{_≡_};
 ghost use Rattle.accounting.specs.Counters.{netsAnswer};
 ghost use Rattle.pool.specs.State.{refused};

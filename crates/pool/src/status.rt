@@ -1,7 +1,7 @@
 // Status: the three bits that close deposits, withdrawals and swaps.
-use crate::receipt::amounts_receipt;
 use crate::state::After;
 use crate::state::Pool;
+use receipt::amounts_receipt;
 use refusal::INVALID_INPUT;
 ghost use mathlib.Core.Path.{_≡_};
 ghost use Prim.Native.Nat.{_≤_};

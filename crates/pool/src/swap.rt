@@ -1,6 +1,4 @@
 // What both swaps share: the tests on closing and nets, the booking, the receipt.
-use crate::receipt::Receipt;
-use crate::receipt::refusal_receipt;
 use crate::state::After;
 use crate::state::Pool;
 use accounting::Booking;
@@ -13,6 +11,8 @@ use curve::calculator::SwapResult;
 use lending::booked;
 use oracle::Ring;
 use oracle::Update;
+use receipt::Receipt;
+use receipt::refusal_receipt;
 use refusal::ACCEPTED;
 use refusal::INVALID_FEE_MODEL;
 use refusal::MATH_OVERFLOW;

@@ -1,6 +1,5 @@
 // Withdrawal: LP tokens for tokens of both kinds.
 use crate::liquidity::token_amounts;
-use crate::receipt::amounts_receipt;
 use crate::state::After;
 use crate::state::Pool;
 use accounting::Nets;
@@ -8,6 +7,7 @@ use curve::constant_product::LpTokens;
 use curve::constant_product::RoundDirection;
 use curve::constant_product::TradingTokenResult;
 use curve::constant_product::TradingTokens;
+use receipt::amounts_receipt;
 use refusal::ACCEPTED;
 use refusal::EXCEEDED_SLIPPAGE;
 use refusal::NOT_APPROVED;

@@ -7,10 +7,11 @@ use Rattle.refusal.specs.Refusal.{UnreadableRow}
 use Rattle.refusal.specs.Tests.{first}
 use Rattle.curve.specs.declared.calculator.Rates.{Rates}
 use Rattle.oracle.specs.Ring.{Entries}
-use Rattle.pool.specs.declared.receipt.Receipt.{Receipt}
+use Rattle.receipt.specs.declared.Receipt.{Receipt}
 use Rattle.pool.specs.declared.state.Pool.{Pool}
 use Rattle.pool.specs.declared.state.After.{After}
-use Rattle.pool.specs.State.{net0, net1, Done, refusal}
+use Rattle.receipt.specs.Receipt.{refusal}
+use Rattle.pool.specs.State.{net0, net1, Done}
 use Rattle.pool.specs.Opening.{rateTests, zeroRates, zeroPool, zeroEntries, opening}
 use Rattle.pool.specs.SwapBaseInput.{swapBaseInput}
 use Rattle.pool.specs.SwapBaseOutput.{swapBaseOutput}

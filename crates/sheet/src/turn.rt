@@ -3,10 +3,10 @@ use curve::calculator::Rates;
 use curve::constant_product::LpTokens;
 use curve::constant_product::TradingTokens;
 use pool::opening::rate_number;
-use pool::receipt::Receipt;
-use pool::receipt::refusal_receipt;
 use pool::state::After;
 use pool::state::Pool;
+use receipt::Receipt;
+use receipt::refusal_receipt;
 use refusal::ACCEPTED;
 use refusal::UNREADABLE_ROW;
 use rows::row::Row;
@@ -15,7 +15,7 @@ ghost use mathlib.Core.Bool.{_&&_};
 ghost use Prim.Native.Nat.{_+_, _-_};
 ghost use lib.Dec.{eqb};
 ghost use Rattle.oracle.specs.Ring.{Entries};
-ghost use Rattle.pool.specs.State.{refusal};
+ghost use Rattle.receipt.specs.Receipt.{refusal};
 ghost use Rattle.sheet.specs.Sheet.{sheetOf, turnOf, refusedRow, calledBesides, keepRates, perform, swapInput, swapOutput, firstAmount, secondAmount};
 
 // The rates for the next opening, and the pool. The ring's entries are lent beside them.

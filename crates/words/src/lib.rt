@@ -2,8 +2,8 @@
 use accounting::FeeCounters;
 use curve::calculator::Rates;
 use oracle::Ring;
-use pool::receipt::Receipt;
 use pool::state::Pool;
+use receipt::Receipt;
 ghost use mathlib.Core.Path.{_≡_};
 ghost use mathlib.Core.Bool.{cond};
 ghost use lib.ListN.{drop};

@@ -6,8 +6,8 @@ use Prim.Native.Nat.{ℕ}
 use Rattle.curve.specs.declared.calculator.SwapResult.{SwapResult}
 use Rattle.accounting.specs.Counters.{ofToken}
 use Rattle.accounting.specs.Booking.{creatorToken}
-use Rattle.pool.specs.declared.receipt.Receipt.{Receipt}
-use Rattle.pool.specs.State.{refusal}
+use Rattle.receipt.specs.declared.Receipt.{Receipt}
+use Rattle.receipt.specs.Receipt.{refusal}
 use Rattle.pool.specs.Swap.{swapReceipt}
 use borrow.Author.Needs.{needs}
 use Rattle.pool.proofs.swap.swap_receipt.Statement.{statement}

@@ -6,7 +6,7 @@ use mathlib.Core.Bool.{false}
 use lib.Dec.{eqb}
 use native.Mathlib.Omega.{arith}
 use borrow.Author.Tests.{ne-eqb}
-use Rattle.pool.specs.declared.receipt.Receipt.{Receipt}
+use Rattle.receipt.specs.declared.Receipt.{Receipt}
 use Rattle.sheet.specs.Sheet.{firstAmount, secondAmount}
 use Rattle.sheet.proofs.Picks.{one-of-two}
 use borrow.Author.Needs.{needs}

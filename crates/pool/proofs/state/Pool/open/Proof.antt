@@ -9,8 +9,9 @@ use Rattle.refusal.specs.Tests.{_then_, first}
 use Rattle.refusal.proofs.Stops.{numbered, outcome-stop, outcome-go}
 use Rattle.curve.specs.declared.calculator.Rates.{Rates}
 use Rattle.curve.specs.Calculator.{rateLimits}
-use Rattle.pool.specs.State.{refused, amounts, done}
-use Rattle.pool.specs.declared.receipt.Receipt.{Receipt}
+use Rattle.receipt.specs.Receipt.{amounts}
+use Rattle.pool.specs.State.{refused, done}
+use Rattle.receipt.specs.declared.Receipt.{Receipt}
 use Rattle.pool.specs.declared.state.Pool.{Pool}
 use Rattle.pool.specs.declared.state.After.{After}
 use Rattle.pool.specs.Opening.{zeroEntries, zeroPool, openWith, openPool, openingFront, rateTests, openingTests, opening}

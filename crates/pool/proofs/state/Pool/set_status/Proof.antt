@@ -3,9 +3,9 @@
 use mathlib.Core.Path.{_≡_, _∙_}
 use Prim.Native.Nat.{ℕ, _≤_}
 use Rattle.refusal.proofs.Stops.{outcome-at, outcome-all}
-use Rattle.pool.specs.declared.receipt.Receipt.{Receipt}
+use Rattle.receipt.specs.declared.Receipt.{Receipt}
 use Rattle.pool.specs.declared.state.Pool.{Pool}
-use Rattle.pool.specs.State.{amounts}
+use Rattle.receipt.specs.Receipt.{amounts}
 use Rattle.pool.specs.Status.{flagged, withStatus, statusTests, setStatus}
 use borrow.Author.Needs.{needs}
 use borrow.Author.Tests.{lt-ltb, le-ltb}

@@ -1,9 +1,9 @@
--- `pool::receipt::amounts_receipt` meets its contract.
+-- `receipt::amounts_receipt` meets its contract.
 -- Assumes nothing.
-use Rattle.pool.specs.State.{refusal, amounts}
+use Rattle.receipt.specs.Receipt.{refusal, amounts}
 use borrow.Author.Needs.{needs}
-use Rattle.pool.proofs.receipt.amounts_receipt.Statement.{statement}
-use Rattle.pool.proofs.receipt.amounts_receipt.Tie as tie
+use Rattle.receipt.proofs.amounts_receipt.Statement.{statement}
+use Rattle.receipt.proofs.amounts_receipt.Tie as tie
 
 refusal-receipt-requires : tie.Need-refusal-receipt-requires
 refusal-receipt-requires c κs = search needs

@@ -1,6 +1,6 @@
 // What a call shows of itself.
 ghost use mathlib.Core.Path.{_≡_};
-ghost use Rattle.pool.specs.State.{refusal, amounts};
+ghost use Rattle.receipt.specs.Receipt.{refusal, amounts};
 
 // An accepted call's number is 0. A refused call's receipt holds its number and zeros.
 // `kind` is numbered as in the day sheet: 1 opening, 2 swap by input, 3 swap by output, 4 deposit, 5 withdrawal, 6 settlement, 7 status.
@@ -48,14 +48,7 @@ pub fn refusal_receipt(number: u64) -> Receipt
 }
 
 // The receipt of an accepted call without fees.
-pub(crate) fn amounts_receipt(
-    kind: u64,
-    in0: u64,
-    in1: u64,
-    out0: u64,
-    out1: u64,
-    lp: u64,
-) -> Receipt
+pub fn amounts_receipt(kind: u64, in0: u64, in1: u64, out0: u64, out1: u64, lp: u64) -> Receipt
     ensures { λ r. ⌜ r ≡ amounts kind in0 in1 out0 out1 lp ⌝ }
 {
     let zeros = refusal_receipt(0);
