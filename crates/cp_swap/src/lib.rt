@@ -12,6 +12,7 @@ use accounting::Nets;
 use curve::constant_product::LpTokens;
 use curve::constant_product::TradingTokens;
 use history::call::Call;
+use opening::open;
 use pool::state::Pool;
 use refusal::ACCEPTED;
 use words::pool_of;
@@ -177,7 +178,7 @@ pub extern "C" fn cp_swap_open(
     ensures { λ r. ⌜ memory r (now (pool .exit)) (now (ring .exit)) (now (receipt .exit)) ≡ openedOn (now (pool .entry)) (now (ring .entry)) (now (receipt .entry)) amount0 amount1 model enabled «open_time» (now (rates .entry)) ⌝ }
 {
     let w = *rates;
-    let opened = Pool::open(amount0, amount1, model, enabled, open_time, rates_of(w));
+    let opened = open(amount0, amount1, model, enabled, open_time, rates_of(w));
     let after = opened.after;
     let number = after.receipt.number;
     if number != ACCEPTED {

@@ -5,7 +5,6 @@ pub mod SwapBaseInput
 pub mod SwapBaseOutput
 pub mod Swaps
 pub mod Liquidity
-pub mod Prices
 pub mod Status
 pub mod Settlement
 pub mod Stages

@@ -3,8 +3,6 @@ pub mod creator_fee_share;
 pub mod decide;
 pub mod deposit;
 pub mod liquidity;
-pub mod opening;
-pub mod prices;
 pub mod state;
 pub mod status;
 pub mod swap;

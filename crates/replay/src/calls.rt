@@ -4,6 +4,7 @@ use crate::row::pool_at;
 use curve::calculator::Rates;
 use curve::constant_product::LpTokens;
 use curve::constant_product::TradingTokens;
+use opening::open;
 use pool::state::Pool;
 use words::stand_at;
 
@@ -21,7 +22,7 @@ fn opening(row: &[u64; 80]) -> bool {
         creator: row[9],
         share: row[10],
     };
-    let opened = Pool::open(row[1], row[2], row[3], row[4], row[5], rates);
+    let opened = open(row[1], row[2], row[3], row[4], row[5], rates);
     let entries = opened.entries;
     let zeros = [0u64; 500];
     if !same_ring(&entries, &zeros) {

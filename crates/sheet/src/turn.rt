@@ -2,7 +2,8 @@
 use curve::calculator::Rates;
 use curve::constant_product::LpTokens;
 use curve::constant_product::TradingTokens;
-use pool::opening::rate_number;
+use opening::open;
+use opening::rate_number;
 use pool::state::After;
 use pool::state::Pool;
 use receipt::Receipt;
@@ -110,7 +111,7 @@ impl Sheet {
         ensures { λ r. ⌜ turnOf r (now (entries .exit)) ≡ perform (sheetOf self (now (entries .entry))) (Row.Row 1 amount0 amount1 model enabled «open_time») ⌝ }
     {
         let rates = self.rates;
-        let opened = Pool::open(amount0, amount1, model, enabled, open_time, rates);
+        let opened = open(amount0, amount1, model, enabled, open_time, rates);
         let number = opened.after.receipt.number;
         if number != ACCEPTED {
             return self.refuse(number);

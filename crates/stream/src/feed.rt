@@ -1,5 +1,6 @@
 // One piece of a day sheet's input (document 01, 'The day sheet').
 use curve::calculator::Rates;
+use opening::zero;
 use pool::state::Pool;
 use rows::row::read_row;
 use rows::row::write_row_at;
@@ -59,7 +60,7 @@ pub fn start() -> Going
         creator: 0,
         share: 0,
     };
-    let pool = Pool::zero();
+    let pool = zero();
     let sheet = Sheet { rates, pool };
     Going { sheet, begun: 0 }
 }

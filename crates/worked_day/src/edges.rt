@@ -3,6 +3,7 @@ use crate::show;
 use curve::calculator::Rates;
 use curve::constant_product::LpTokens;
 use curve::constant_product::TradingTokens;
+use opening::open;
 use pool::state::After;
 use pool::state::Opened;
 use pool::state::Pool;
@@ -19,7 +20,7 @@ pub(crate) fn rates(trade: u64, creator: u64) -> Rates {
 
 // 1,000,000 by 4,000,000.
 pub(crate) fn day(model: u64, enabled: u64, rates: Rates) -> Opened {
-    Pool::open(1000000, 4000000, model, enabled, 0, rates)
+    open(1000000, 4000000, model, enabled, 0, rates)
 }
 
 // A swap of token 0 by input, from an opening.
@@ -86,9 +87,9 @@ pub(crate) fn creator_fees() {
 }
 
 pub(crate) fn openings() {
-    let least = Pool::open(100, 100, 0, 0, 0, rates(2500, 0));
+    let least = open(100, 100, 0, 0, 0, rates(2500, 0));
     show::call(b"opening 100 by 100 is 13", least.after);
-    let enough = Pool::open(101, 101, 0, 0, 0, rates(2500, 0));
+    let enough = open(101, 101, 0, 0, 0, rates(2500, 0));
     show::call(b"opening 101 by 101", enough.after);
     let passes = day(0, 0, rates(999999, 0));
     show::call(b"trade + creator 999,999 passes", passes.after);

@@ -7,11 +7,13 @@ use accounting::FeeCounters;
 use curve::calculator::Rates;
 use curve::constant_product::LpTokens;
 use curve::constant_product::TradingTokens;
+use opening::open;
+use opening::zero;
 use pool::state::Pool;
 
 // Vaults at the end of u64: the input's vault would pass it.
 fn vault_past() {
-    let opened = Pool::open(u64::MAX, u64::MAX, 0, 0, 0, rates(2500, 0));
+    let opened = open(u64::MAX, u64::MAX, 0, 0, 0, rates(2500, 0));
     let first = opened.after;
     let pool = first.pool;
     let before = opened.entries;
@@ -36,7 +38,7 @@ fn vault_past() {
 
 // A steep price and a wild clock: price times seconds would pass 2^128 - 1.
 fn price_past() {
-    let opened = Pool::open(1, 25769803777, 0, 0, 0, rates(2500, 0));
+    let opened = open(1, 25769803777, 0, 0, 0, rates(2500, 0));
     let first = opened.after;
     let start = first.pool;
     let mut entries = opened.entries;
@@ -96,7 +98,7 @@ pub(crate) fn swaps() {
 }
 
 pub(crate) fn liquidity() {
-    let near = Pool::open(u64::MAX - 1, u64::MAX, 0, 0, 0, rates(2500, 0));
+    let near = open(u64::MAX - 1, u64::MAX, 0, 0, 0, rates(2500, 0));
     let first = near.after;
     let full = first.pool;
     let most = TradingTokens(u64::MAX);
@@ -129,7 +131,7 @@ fn settlement() {
             creator0: 1,
             creator1: 1,
         },
-        ..Pool::zero()
+        ..zero()
     };
     show::refusal_without_ring(
         b"settlement, protocol counter past u64 is 8",
@@ -145,12 +147,12 @@ pub(crate) fn others() {
     let first = opened.after;
     let pool = first.pool;
     show::refusal_without_ring(b"status, flag 2 is 3", pool, pool.set_status(2, 2));
-    let small = Pool::open(100, 102, 0, 0, 0, rates(2500, 0));
+    let small = open(100, 102, 0, 0, 0, rates(2500, 0));
     let zeros = [0u64; 500];
     let entries = small.entries;
     show::refusal(
         b"opening, supply below 101 is 13",
-        Pool::zero(),
+        zero(),
         small.after,
         &zeros,
         &entries,
