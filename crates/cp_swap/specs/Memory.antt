@@ -6,7 +6,7 @@ use mathlib.Core.List.{List, [], _∷_}
 use lib.Dec.{eqb, ltb}
 use Rattle.refusal.specs.Refusal.{InvalidInput}
 use Rattle.refusal.specs.Tests.{Tests, outcome}
-use Rattle.curve.specs.declared.calculator.Rates.{Rates}
+use Rattle.calculator.specs.declared.Rates.{Rates}
 use Rattle.accounting.specs.declared.Nets.{Nets}
 use Rattle.accounting.specs.declared.Nets.the-variants.{Of, Refused}
 use Rattle.accounting.specs.Counters.{netsAnswer}

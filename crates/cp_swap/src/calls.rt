@@ -1,5 +1,5 @@
 // The steps of a call over plain memory: the record is tested and read, and what the call gives is written where it is accepted.
-use curve::calculator::Rates;
+use calculator::Rates;
 use oracle::store;
 use pool::state::After;
 use refusal::ACCEPTED;

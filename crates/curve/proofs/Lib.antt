@@ -1,6 +1,4 @@
 pub mod Answers
 pub mod Shares
 pub mod LpTokens
-pub mod Swaps
-pub mod FairSwaps
 pub mod Edges

@@ -1,5 +1,4 @@
 pub mod Answer
 pub mod Fees
 pub mod ConstantProduct
-pub mod Calculator
 pub mod Stages

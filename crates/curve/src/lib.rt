@@ -1,5 +1,4 @@
 // Fees and the curve: what a swap costs and gives, and what LP tokens are worth.
 pub mod answer;
-pub mod calculator;
 pub mod constant_product;
 pub mod fees;

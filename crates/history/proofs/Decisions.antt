@@ -7,12 +7,12 @@ use lib.Dec.{eqb}
 use Rattle.math.specs.Root.{root}
 use Rattle.refusal.specs.Tests.{Tests, _then_, outcome}
 use Rattle.refusal.proofs.Stops.{numbered, outcome-map}
-use Rattle.curve.specs.declared.calculator.Rates.{Rates}
+use Rattle.calculator.specs.declared.Rates.{Rates}
 use Rattle.curve.specs.declared.constant_product.RoundDirection.the-variants.{Floor, Ceiling}
 use Rattle.curve.specs.Fees.{feeDown}
 use Rattle.curve.specs.ConstantProduct.{lpAmount}
-use Rattle.curve.specs.declared.calculator.SwapResult.{SwapResult}
-use Rattle.curve.specs.Calculator.{rateLimits, quoteTests, onInput, swapBaseInput as inputWithFees, swapBaseOutput as outputWithFees}
+use Rattle.calculator.specs.declared.SwapResult.{SwapResult}
+use Rattle.calculator.specs.Calculator.{rateLimits, quoteTests, onInput, swapBaseInput as inputWithFees, swapBaseOutput as outputWithFees}
 use Rattle.accounting.specs.Counters.{counterTests}
 use Rattle.accounting.specs.Booking.{pastTests, bookingTests}
 use Rattle.oracle.specs.Ring.{Entries, ringTests}

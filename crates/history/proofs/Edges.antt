@@ -5,7 +5,7 @@ use Rattle.math.specs.Root.{rootAt, root}
 use Rattle.refusal.specs.Tests.{_then_, outcome}
 use Rattle.curve.specs.Fees.{feeUp, feeDown, split, preFee}
 use Rattle.curve.specs.ConstantProduct.{swapOut, swapIn, lpAmount}
-use Rattle.curve.specs.Calculator.{rateLimits, onInput, swapBaseInput as inputWithFees, curveOutput, curveInput, charged, withFees, quoteTests, swapBaseOutput as outputWithFees}
+use Rattle.calculator.specs.Calculator.{rateLimits, onInput, swapBaseInput as inputWithFees, curveOutput, curveInput, charged, withFees, quoteTests, swapBaseOutput as outputWithFees}
 use Rattle.accounting.specs.Counters.{counterTests}
 use Rattle.accounting.specs.Booking.{booked, pastTests, bookingTests}
 use Rattle.oracle.specs.Ring.{entryAt, withEntry, price, ringTests, updated}

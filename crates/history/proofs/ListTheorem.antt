@@ -11,7 +11,7 @@ use lib.ListN.{take, drop, take-append-drop}
 use lib.Seq.{take-take}
 use Rattle.math.proofs.WholeRoot.{root-square}
 use Rattle.refusal.proofs.Stops.{Passed, outcome-elim}
-use Rattle.curve.specs.declared.calculator.Rates.{Rates}
+use Rattle.calculator.specs.declared.Rates.{Rates}
 use Rattle.oracle.specs.Ring.{entryAt}
 use Rattle.receipt.specs.declared.Receipt.{Receipt}
 use Rattle.receipt.specs.Receipt.{refusal}

@@ -7,7 +7,7 @@ use lib.Dec.{eqb}
 use borrow.Author.Tests.{eqb-true, eqb-false}
 use Rattle.refusal.specs.Tests.{first}
 use Rattle.refusal.proofs.Stops.{Passed, outcome-go, outcome-stop, first-passed}
-use Rattle.curve.specs.declared.calculator.Rates.{Rates}
+use Rattle.calculator.specs.declared.Rates.{Rates}
 use Rattle.receipt.specs.Receipt.{refusal}
 use Rattle.pool.specs.State.{refused, Done}
 use Rattle.pool.specs.Opening.{opening}

@@ -11,14 +11,14 @@ use lib.Dec.{ltb, eqb}
 use Rattle.refusal.specs.Tests.{_then_}
 use Rattle.refusal.proofs.Stops.{Passed}
 use Rattle.curve.specs.Fees.{Million}
-use Rattle.curve.specs.declared.calculator.SwapResult.{SwapResult}
+use Rattle.calculator.specs.declared.SwapResult.{SwapResult}
 use Rattle.accounting.specs.Counters.{counterTests}
 use Rattle.accounting.specs.Booking.{booked}
 use Rattle.oracle.specs.declared.Ring.{Ring}
 use Rattle.oracle.specs.Ring.{Updated}
 use Rattle.pool.specs.declared.state.Pool.{Pool}
 use Rattle.pool.specs.State.{net0, net1, creatorRate, withBooks}
-use Rattle.curve.specs.Calculator.{rateLimits, quoteTests}
+use Rattle.calculator.specs.Calculator.{rateLimits, quoteTests}
 use Rattle.pool.specs.Swap.{netIn, netOut, closedTests, modelTests, netTests, bookedPool, swapReceipt, swapped}
 use Rattle.pool.specs.SwapBaseInput.{inputFront, inputTests}
 use Rattle.pool.specs.SwapBaseOutput.{outputFront, outputTests}
@@ -27,7 +27,7 @@ use Rattle.history.specs.Run.{State}
 use Rattle.history.specs.Afresh.{summed, counted, reckonOne}
 use Rattle.history.specs.Demand3.{heldBooks}
 use Rattle.history.proofs.Decisions.{testsOf, acceptedOf, decision, feeOnInput}
-use Rattle.curve.proofs.FairSwaps.{Fair, input-fair, output-fair}
+use Rattle.calculator.proofs.FairSwaps.{Fair, input-fair, output-fair}
 use Rattle.history.proofs.Kept.{Sound, Covered, Kept, held}
 use Rattle.history.proofs.RingKept.{withUpdate, observed}
 

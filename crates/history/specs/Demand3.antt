@@ -2,7 +2,7 @@
 use Prim.Native.Nat.{ℕ, _*_, _≤_}
 use mathlib.Core.Path.{_≡_}
 use mathlib.Core.List.{List}
-use Rattle.curve.specs.declared.calculator.Rates.{Rates}
+use Rattle.calculator.specs.declared.Rates.{Rates}
 use Rattle.oracle.specs.Ring.{newest}
 use Rattle.receipt.specs.declared.Receipt.{Receipt}
 use Rattle.pool.specs.State.{net0, net1}

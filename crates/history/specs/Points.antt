@@ -3,7 +3,7 @@ use Prim.Native.Nat.{ℕ, _*_, _≤_}
 use mathlib.Core.Path.{_≡_}
 use mathlib.Core.List.{List}
 use lib.ListN.{take}
-use Rattle.curve.specs.declared.calculator.Rates.{Rates}
+use Rattle.calculator.specs.declared.Rates.{Rates}
 use Rattle.receipt.specs.declared.Receipt.{Receipt}
 use Rattle.pool.specs.Opening.{opening}
 use Rattle.history.specs.declared.call.Call.{Call}

@@ -1,7 +1,7 @@
 // Opening: a new pool from two amounts.
 use accounting::FeeCounters;
-use curve::calculator::Rates;
-use curve::calculator::limit_number;
+use calculator::Rates;
+use calculator::limit_number;
 use curve::fees::FEE_RATE_DENOMINATOR_VALUE;
 use math::root::isqrt;
 use math::wide::widening_mul;

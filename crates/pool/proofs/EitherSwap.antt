@@ -8,12 +8,12 @@ use lib.Dec.{ltb, eqb}
 use Rattle.refusal.specs.Refusal.{ExceededSlippage}
 use Rattle.refusal.specs.Tests.{Tests, _then_, first}
 use Rattle.refusal.proofs.Stops.{numbered}
-use Rattle.curve.specs.declared.calculator.Rates.{Rates}
-use Rattle.curve.specs.declared.calculator.SwapResult.{SwapResult}
-use Rattle.curve.specs.declared.calculator.SwapAnswer.{SwapAnswer}
-use Rattle.curve.specs.declared.calculator.SwapAnswer.the-variants as S
-use Rattle.curve.specs.Calculator.{rateLimits, onInput}
-use Rattle.curve.specs.Stages.{inputStage, outputStage}
+use Rattle.calculator.specs.declared.Rates.{Rates}
+use Rattle.calculator.specs.declared.SwapResult.{SwapResult}
+use Rattle.calculator.specs.declared.SwapAnswer.{SwapAnswer}
+use Rattle.calculator.specs.declared.SwapAnswer.the-variants as S
+use Rattle.calculator.specs.Calculator.{rateLimits, onInput}
+use Rattle.calculator.specs.Stages.{inputStage, outputStage}
 use Rattle.accounting.specs.declared.Nets.the-variants as N
 use Rattle.accounting.specs.Counters.{ofToken}
 use Rattle.oracle.specs.Ring.{Entries}

@@ -6,14 +6,14 @@ use Prim.Native.Nat.{ℕ, _≤_, _<_}
 use native.Mathlib.Omega.{arith}
 use Rattle.refusal.specs.Tests.{Tests, _then_, first, outcome}
 use Rattle.refusal.proofs.Stops.{turns, facts, Passed, numbered, first-passed, first-stage, outcome-stop, outcome-go, outcome-past, outcome-then, outcome-elim, outcome-map}
-use Rattle.curve.specs.declared.calculator.Rates.{Rates}
-use Rattle.curve.specs.declared.calculator.SwapResult.{SwapResult}
-use Rattle.curve.specs.declared.calculator.SwapAnswer.{SwapAnswer}
-use Rattle.curve.specs.declared.calculator.SwapAnswer.the-variants as S
-use Rattle.curve.specs.Calculator.{rateLimits, onInput, quoteTests, inputAnswer, outputAnswer}
-use Rattle.curve.specs.Stages.{Limited, inputStage, outputStage}
-use Rattle.curve.proofs.Swaps.{past-limits}
-use Rattle.curve.proofs.FairSwaps.{Fair, input-fair, output-fair}
+use Rattle.calculator.specs.declared.Rates.{Rates}
+use Rattle.calculator.specs.declared.SwapResult.{SwapResult}
+use Rattle.calculator.specs.declared.SwapAnswer.{SwapAnswer}
+use Rattle.calculator.specs.declared.SwapAnswer.the-variants as S
+use Rattle.calculator.specs.Calculator.{rateLimits, onInput, quoteTests, inputAnswer, outputAnswer}
+use Rattle.calculator.specs.Stages.{Limited, inputStage, outputStage}
+use Rattle.calculator.proofs.Swaps.{past-limits}
+use Rattle.calculator.proofs.FairSwaps.{Fair, input-fair, output-fair}
 use Rattle.accounting.specs.declared.Nets.{Nets}
 use Rattle.accounting.specs.declared.Nets.the-variants as N
 use Rattle.accounting.specs.Counters.{ofToken, counterTests}

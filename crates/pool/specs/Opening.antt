@@ -7,9 +7,9 @@ use lib.ListN.{replicate}
 use Rattle.math.specs.Root.{root}
 use Rattle.refusal.specs.Refusal.{EmptySupply, InvalidFeeModel, InvalidInput, InitLpAmountTooLess}
 use Rattle.refusal.specs.Tests.{Tests, _then_}
-use Rattle.curve.specs.declared.calculator.Rates.{Rates}
+use Rattle.calculator.specs.declared.Rates.{Rates}
 use Rattle.curve.specs.Fees.{Million}
-use Rattle.curve.specs.Calculator.{rateLimits}
+use Rattle.calculator.specs.Calculator.{rateLimits}
 use Rattle.accounting.specs.Counters.{zeroCounters}
 use Rattle.oracle.specs.declared.Ring.{Ring}
 use Rattle.oracle.specs.Ring.{Entries}

@@ -6,9 +6,9 @@ use lib.Dec.{ltb, eqb}
 use Rattle.refusal.specs.Refusal.{ZeroTradingTokens, ExceededSlippage}
 use Rattle.refusal.specs.Tests.{Tests, _then_, outcome}
 use Rattle.curve.specs.Fees.{Million}
-use Rattle.curve.specs.Calculator.{onInput, noSplit, quoteTests, inputAnswer, outputAnswer, swapBaseInput as inputWithFees, swapBaseOutput as outputWithFees}
-use Rattle.curve.specs.declared.calculator.Rates.{Rates}
-use Rattle.curve.specs.declared.calculator.SwapAnswer.{SwapAnswer}
+use Rattle.calculator.specs.Calculator.{onInput, noSplit, quoteTests, inputAnswer, outputAnswer, swapBaseInput as inputWithFees, swapBaseOutput as outputWithFees}
+use Rattle.calculator.specs.declared.Rates.{Rates}
+use Rattle.calculator.specs.declared.SwapAnswer.{SwapAnswer}
 use Rattle.accounting.specs.Counters.{counters0, counters1}
 use Rattle.curve.specs.declared.answer.Answer.{Answer}
 use Rattle.curve.specs.declared.answer.Answer.the-variants.{Amount, Refused}
@@ -17,7 +17,7 @@ use Rattle.curve.specs.declared.constant_product.TradingTokenResult.the-variant
 use Rattle.curve.specs.declared.constant_product.RoundDirection.{RoundDirection}
 use Rattle.curve.specs.ConstantProduct.{lpAmount, tokens}
 use Rattle.curve.specs.Stages.{tokensOf}
-use Rattle.curve.specs.declared.calculator.SwapResult.{SwapResult}
+use Rattle.calculator.specs.declared.SwapResult.{SwapResult}
 use Rattle.accounting.specs.declared.FeeCounters.{FeeCounters}
 use Rattle.accounting.specs.declared.Nets.{Nets}
 use Rattle.accounting.specs.declared.Nets.the-variants as N

@@ -4,7 +4,7 @@ use mathlib.Core.Bool.{Bool, true, false, cond}
 use mathlib.Core.List.{List}
 use lib.Dec.{eqb}
 use Rattle.refusal.specs.Tests.{Tests, outcome}
-use Rattle.curve.specs.declared.calculator.Rates.{Rates}
+use Rattle.calculator.specs.declared.Rates.{Rates}
 use Rattle.accounting.specs.declared.FeeCounters.{FeeCounters}
 use Rattle.accounting.specs.Counters.{counters0, counters1}
 use Rattle.oracle.specs.declared.Ring.{Ring}

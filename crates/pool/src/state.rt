@@ -2,7 +2,7 @@
 use accounting::FeeCounters;
 use accounting::Nets;
 use accounting::vault_amount_without_fee;
-use curve::calculator::Rates;
+use calculator::Rates;
 use oracle::Ring;
 use receipt::Receipt;
 use receipt::refusal_receipt;

@@ -7,7 +7,7 @@ use accounting::Nets;
 use accounting::SwapFees;
 use accounting::creator_token;
 use accounting::of_token;
-use curve::calculator::SwapResult;
+use calculator::SwapResult;
 use lending::booked;
 use oracle::Ring;
 use oracle::Update;

@@ -1,7 +1,7 @@
 // The calls: kinds 1 to 7.
 use crate::row::after_agrees;
 use crate::row::pool_at;
-use curve::calculator::Rates;
+use calculator::Rates;
 use curve::constant_product::LpTokens;
 use curve::constant_product::TradingTokens;
 use opening::open;

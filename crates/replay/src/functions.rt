@@ -8,7 +8,7 @@ use accounting::Nets;
 use accounting::SwapFees;
 use accounting::creator_token;
 use accounting::vault_amount_without_fee;
-use curve::calculator::is_creator_fee_on_input;
+use calculator::is_creator_fee_on_input;
 use curve::constant_product::LpTokens;
 use curve::constant_product::RoundDirection;
 use curve::constant_product::TradingTokenResult;

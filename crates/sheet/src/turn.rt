@@ -1,5 +1,5 @@
 // What a row of the day sheet does (document 01, 'The day sheet'): the sheet after it, and the receipt that its answer shows.
-use curve::calculator::Rates;
+use calculator::Rates;
 use curve::constant_product::LpTokens;
 use curve::constant_product::TradingTokens;
 use opening::open;

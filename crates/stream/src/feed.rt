@@ -1,5 +1,5 @@
 // One piece of a day sheet's input (document 01, 'The day sheet').
-use curve::calculator::Rates;
+use calculator::Rates;
 use opening::zero;
 use pool::state::Pool;
 use rows::row::read_row;

@@ -1,6 +1,6 @@
 // The pool's record, its receipt and the ring as plain numbers, in a fixed order.
 use accounting::FeeCounters;
-use curve::calculator::Rates;
+use calculator::Rates;
 use oracle::Ring;
 use pool::state::Pool;
 use receipt::Receipt;

@@ -1,6 +1,6 @@
 // Document 01's worked day and edges.
 use crate::show;
-use curve::calculator::Rates;
+use calculator::Rates;
 use curve::constant_product::LpTokens;
 use curve::constant_product::TradingTokens;
 use opening::open;

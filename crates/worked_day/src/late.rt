@@ -4,7 +4,7 @@ use crate::edges::day;
 use crate::edges::rates;
 use crate::show;
 use accounting::FeeCounters;
-use curve::calculator::Rates;
+use calculator::Rates;
 use curve::constant_product::LpTokens;
 use curve::constant_product::TradingTokens;
 use opening::open;

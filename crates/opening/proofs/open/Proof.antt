@@ -7,8 +7,8 @@ use lib.Dec.{eqb}
 use Rattle.math.specs.Root.{root}
 use Rattle.refusal.specs.Tests.{_then_, first}
 use Rattle.refusal.proofs.Stops.{numbered, outcome-stop, outcome-go}
-use Rattle.curve.specs.declared.calculator.Rates.{Rates}
-use Rattle.curve.specs.Calculator.{rateLimits}
+use Rattle.calculator.specs.declared.Rates.{Rates}
+use Rattle.calculator.specs.Calculator.{rateLimits}
 use Rattle.receipt.specs.Receipt.{refusal, amounts}
 use Rattle.pool.specs.State.{refused, done}
 use Rattle.receipt.specs.declared.Receipt.{Receipt}

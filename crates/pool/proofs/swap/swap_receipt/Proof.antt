@@ -3,7 +3,7 @@
 use mathlib.Core.Path.{_≡_}
 use mathlib.Core.Bool.{Bool}
 use Prim.Native.Nat.{ℕ}
-use Rattle.curve.specs.declared.calculator.SwapResult.{SwapResult}
+use Rattle.calculator.specs.declared.SwapResult.{SwapResult}
 use Rattle.accounting.specs.Counters.{ofToken}
 use Rattle.accounting.specs.Booking.{creatorToken}
 use Rattle.receipt.specs.declared.Receipt.{Receipt}

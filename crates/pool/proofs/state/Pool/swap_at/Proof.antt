@@ -1,7 +1,7 @@
 -- `pool::state::Pool::swap_at` meets its contract: the quote, its limit, and then the booking.
 -- Assumes nothing.
 use mathlib.Core.Path.{_≡_, sym, _∙_}
-use Rattle.curve.specs.declared.calculator.SwapAnswer.the-variants.{Swapped}
+use Rattle.calculator.specs.declared.SwapAnswer.the-variants.{Swapped}
 use Rattle.pool.specs.Stages.{quoteAnswer}
 use Rattle.pool.proofs.SwapStages.{calculated, handed}
 use Rattle.pool.proofs.EitherSwap.{quoteStage, quote-answer, quote-covered, either-quote-refused, either-limit-refused, either-limit-passed}

@@ -1,0 +1,2 @@
+pub mod Calculator
+pub mod Stages

@@ -1,0 +1,40 @@
+-- What the private steps of this crate answer. No public definition rests on these.
+use Prim.Native.Nat.{ℕ, _+_, _-_, _≤_}
+use mathlib.Core.Bool.{Bool}
+use mathlib.Core.List.{[], _∷_}
+use Rattle.refusal.specs.Refusal.{ZeroTradingTokens}
+use Rattle.refusal.specs.Tests.{outcome}
+use Rattle.curve.specs.Fees.{Million, split}
+use Rattle.calculator.specs.declared.Rates.{Rates}
+use Rattle.calculator.specs.declared.SwapResult.{SwapResult}
+use Rattle.calculator.specs.declared.SwapAnswer.{SwapAnswer}
+use Rattle.calculator.specs.declared.SwapAnswer.the-variants.{Swapped, Refused}
+use Rattle.calculator.specs.Calculator.{noSplit, charged, quoteTests, swapBaseInput, swapBaseOutput}
+
+-- what the rate limits leave
+pub record Limited (rates : Rates) (creatorRate : ℕ) : Type 0 where
+  pub fees : rates .trade + creatorRate ≤ 999999
+  pub shares : rates .protocol + rates .fund ≤ Million
+
+-- fee on input: what is charged of the total fee
+unfoldable pub chargedSplit : Rates → ℕ → ℕ → ℕ → ℕ → SwapResult
+chargedSplit rates creatorRate input output total =
+    let creator = split total (rates .trade) creatorRate in
+    charged rates input output (total - creator) creator
+
+-- a swap by input past the rate limits and the net's test
+unfoldable pub inputStage : Bool → Rates → ℕ → ℕ → ℕ → ℕ → SwapAnswer
+inputStage feeOnInput rates creatorRate netIn netOut amount =
+    outcome
+    ((noSplit feeOnInput (rates .trade) creatorRate, ZeroTradingTokens)
+    ∷ [])
+    Refused
+    (Swapped (swapBaseInput feeOnInput rates creatorRate netIn netOut amount))
+
+-- a swap by output past the rate limits
+unfoldable pub outputStage : Bool → Rates → ℕ → ℕ → ℕ → ℕ → SwapAnswer
+outputStage feeOnInput rates creatorRate netIn netOut amount =
+    outcome
+    (quoteTests feeOnInput rates creatorRate netIn netOut amount)
+    Refused
+    (Swapped (swapBaseOutput feeOnInput rates creatorRate netIn netOut amount))
