@@ -20,6 +20,14 @@ rateLimits rates creatorRate =
     ∷ (ltb Million (rates .protocol + rates .fund), InvalidInput)
     ∷ []
 
+-- opening's limits on trade + creator and protocol + fund, whether creator fees are enabled or not, 3
+abbrev pub limitTests : Rates → Tests
+limitTests rates = rateLimits rates (rates .creator)
+
+-- the rates of an opening: these limits, and share above 1,000,000, 3
+unfoldable pub rateTests : Rates → Tests
+rateTests rates = limitTests rates then ((ltb Million (rates .share), InvalidInput) ∷ [])
+
 -- fee model 0 means input always, 1 input if token 0 goes in, 2 input if token 1 goes in
 unfoldable pub onInput : ℕ → Bool → Bool
 onInput model zeroIn = eqb model 0 || (eqb model 1 && zeroIn || eqb model 2 && not zeroIn)

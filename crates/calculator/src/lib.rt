@@ -1,4 +1,4 @@
-// The swaps with fees (document 01, 'constant_product.rs, then calculator.rs').
+// The rates' limits and the swaps with fees (document 01, 'constant_product.rs, then calculator.rs').
 // `net_in` is the net of the token that goes in, `net_out` of the other; `creator_rate` is the rate that counts, 0 unless the pool enables it.
 use curve::fees::FEE_RATE_DENOMINATOR_VALUE;
 use math::ratio::Quotient;
@@ -19,7 +19,7 @@ ghost use Rattle.math.specs.Ratio.{fit};
 ghost use Rattle.refusal.specs.Tests.{first};
 ghost use Rattle.curve.specs.Fees.{Million, preFee};
 ghost use Rattle.curve.specs.ConstantProduct.{swapOut};
-ghost use Rattle.calculator.specs.Calculator.{rateLimits, onInput, charged, inputAnswer, outputAnswer};
+ghost use Rattle.calculator.specs.Calculator.{rateLimits, rateTests, onInput, charged, inputAnswer, outputAnswer};
 ghost use Rattle.calculator.specs.Stages.{Limited, chargedSplit, inputStage, outputStage};
 
 // A pool's rates, in millionths.
@@ -83,6 +83,20 @@ pub fn limit_number(rates: Rates, creator_rate: u64) -> u64
         return INVALID_INPUT;
     }
     if fund > FEE_RATE_DENOMINATOR_VALUE - protocol {
+        return INVALID_INPUT;
+    }
+    ACCEPTED
+}
+
+// The rates of an opening: these limits, and share above 1,000,000, 3; or 0.
+pub fn rate_number(rates: Rates) -> u64
+    ensures { λ r. ⌜ r ≡ first (rateTests rates) ⌝ }
+{
+    let limit = limit_number(rates, rates.creator);
+    if limit != ACCEPTED {
+        return limit;
+    }
+    if rates.share > FEE_RATE_DENOMINATOR_VALUE {
         return INVALID_INPUT;
     }
     ACCEPTED

@@ -12,7 +12,7 @@ use Rattle.curve.specs.declared.constant_product.RoundDirection.the-variants.{F
 use Rattle.curve.specs.Fees.{feeDown}
 use Rattle.curve.specs.ConstantProduct.{lpAmount}
 use Rattle.calculator.specs.declared.SwapResult.{SwapResult}
-use Rattle.calculator.specs.Calculator.{rateLimits, quoteTests, onInput, swapBaseInput as inputWithFees, swapBaseOutput as outputWithFees}
+use Rattle.calculator.specs.Calculator.{rateLimits, rateTests, quoteTests, onInput, swapBaseInput as inputWithFees, swapBaseOutput as outputWithFees}
 use Rattle.accounting.specs.Counters.{counterTests}
 use Rattle.accounting.specs.Booking.{pastTests, bookingTests}
 use Rattle.oracle.specs.Ring.{Entries, ringTests}
@@ -26,7 +26,7 @@ use Rattle.pool.specs.SwapBaseOutput.{outputFront, outputTests, outputAt, swapB
 use Rattle.pool.specs.Liquidity.{amountTests, depositFront, depositLast, depositTests, deposited, depositAt, deposit, withdrawFront, withdrawLast, withdrawTests, withdrawn, withdrawAt, withdraw}
 use Rattle.pool.specs.Settlement.{paymentTests, settlementTests, settlementReceipt, settled, settlementAt, settlement}
 use Rattle.pool.specs.Status.{statusTests, withFlag, setStatus}
-use Rattle.pool.specs.Opening.{rateTests, zeroEntries, openPool, zeroPool, openingFront, openingTests, opening}
+use Rattle.pool.specs.Opening.{zeroEntries, openPool, zeroPool, openingFront, openingTests, opening}
 use Rattle.history.specs.declared.call.Call.{Call}
 use Rattle.history.specs.declared.call.Call.the-variants.{SwapBaseInput, SwapBaseOutput, Deposit, Withdraw, Settle, SetStatus}
 use Rattle.history.specs.Run.{State, besides, next}

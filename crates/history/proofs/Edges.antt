@@ -5,13 +5,13 @@ use Rattle.math.specs.Root.{rootAt, root}
 use Rattle.refusal.specs.Tests.{_then_, outcome}
 use Rattle.curve.specs.Fees.{feeUp, feeDown, split, preFee}
 use Rattle.curve.specs.ConstantProduct.{swapOut, swapIn, lpAmount}
-use Rattle.calculator.specs.Calculator.{rateLimits, onInput, swapBaseInput as inputWithFees, curveOutput, curveInput, charged, withFees, quoteTests, swapBaseOutput as outputWithFees}
+use Rattle.calculator.specs.Calculator.{rateLimits, rateTests, onInput, swapBaseInput as inputWithFees, curveOutput, curveInput, charged, withFees, quoteTests, swapBaseOutput as outputWithFees}
 use Rattle.accounting.specs.Counters.{counterTests}
 use Rattle.accounting.specs.Booking.{booked, pastTests, bookingTests}
 use Rattle.oracle.specs.Ring.{entryAt, withEntry, price, ringTests, updated}
 use Rattle.receipt.specs.Receipt.{refusal, amounts}
 use Rattle.pool.specs.State.{bit, refused, withBooks}
-use Rattle.pool.specs.Opening.{rateTests, zeroEntries, openPool, zeroPool, openingFront, openingTests, opening}
+use Rattle.pool.specs.Opening.{zeroEntries, openPool, zeroPool, openingFront, openingTests, opening}
 use Rattle.pool.specs.Swap.{closedTests, modelTests, netTests, bookTests, bookedPool, swapReceipt, swapped}
 use Rattle.pool.specs.SwapBaseInput.{inputFront, minimumTests, inputTests, inputAt, swapBaseInput}
 use Rattle.pool.specs.SwapBaseOutput.{outputFront, outputTests, outputAt, swapBaseOutput}

@@ -1,8 +1,7 @@
 // Opening: a new pool from two amounts.
 use accounting::FeeCounters;
 use calculator::Rates;
-use calculator::limit_number;
-use curve::fees::FEE_RATE_DENOMINATOR_VALUE;
+use calculator::rate_number;
 use math::root::isqrt;
 use math::wide::widening_mul;
 use oracle::Ring;
@@ -22,24 +21,10 @@ ghost use Prim.Native.Nat.{_*_};
 ghost use Rattle.math.specs.Root.{root};
 ghost use Rattle.refusal.specs.Tests.{first};
 ghost use Rattle.pool.specs.State.{done};
-ghost use Rattle.pool.specs.Opening.{rateTests, openingFront, openingTests, openWith, zeroPool, opening};
+ghost use Rattle.pool.specs.Opening.{openingFront, openingTests, openWith, zeroPool, opening};
 
 // A supply below this is refused.
 const LEAST_SUPPLY: u64 = 101;
-
-// The rates' limits, and share above 1,000,000, 3; or 0.
-pub fn rate_number(rates: Rates) -> u64
-    ensures { λ r. ⌜ r ≡ first (rateTests rates) ⌝ }
-{
-    let limit = limit_number(rates, rates.creator);
-    if limit != ACCEPTED {
-        return limit;
-    }
-    if rates.share > FEE_RATE_DENOMINATOR_VALUE {
-        return INVALID_INPUT;
-    }
-    ACCEPTED
-}
 
 // An amount 0, 6; model 9; enabled not 0 or 1, 3; or 0.
 fn opening_front(amount0: u64, amount1: u64, model: u64, enabled: u64) -> u64

@@ -10,7 +10,7 @@ use Rattle.calculator.specs.declared.Rates.{Rates}
 use Rattle.calculator.specs.declared.SwapResult.{SwapResult}
 use Rattle.calculator.specs.declared.SwapAnswer.{SwapAnswer}
 use Rattle.calculator.specs.declared.SwapAnswer.the-variants as S
-use Rattle.calculator.specs.Calculator.{rateLimits, onInput, quoteTests, inputAnswer, outputAnswer}
+use Rattle.calculator.specs.Calculator.{rateLimits, limitTests, onInput, quoteTests, inputAnswer, outputAnswer}
 use Rattle.calculator.specs.Stages.{Limited, inputStage, outputStage}
 use Rattle.calculator.proofs.Swaps.{past-limits}
 use Rattle.calculator.proofs.FairSwaps.{Fair, input-fair, output-fair}
@@ -21,7 +21,6 @@ use Rattle.oracle.specs.Ring.{Entries}
 use Rattle.pool.specs.declared.state.Pool.{Pool}
 use Rattle.pool.specs.declared.swap.Decision.{Decision}
 use Rattle.pool.specs.State.{net0, net1, creatorRate, refused, Done}
-use Rattle.pool.specs.Opening.{limitTests}
 use Rattle.pool.specs.Swap.{netIn, netOut, modelTests, netTests, bookTests, swapped, decidedSwap, doneOf}
 use Rattle.pool.specs.Stages.{refusedSwap, bookedSwap, Swappable, swapNets}
 

@@ -1,5 +1,5 @@
 -- Document 01, 'Opening' (amount 0, amount 1, model, enabled, open time, rates).
-use Prim.Native.Nat.{ℕ, _+_, _*_}
+use Prim.Native.Nat.{ℕ, _*_}
 use mathlib.Core.Bool.{Bool, false}
 use mathlib.Core.List.{[], _∷_}
 use lib.Dec.{ltb, eqb}
@@ -8,22 +8,13 @@ use Rattle.math.specs.Root.{root}
 use Rattle.refusal.specs.Refusal.{EmptySupply, InvalidFeeModel, InvalidInput, InitLpAmountTooLess}
 use Rattle.refusal.specs.Tests.{Tests, _then_}
 use Rattle.calculator.specs.declared.Rates.{Rates}
-use Rattle.curve.specs.Fees.{Million}
-use Rattle.calculator.specs.Calculator.{rateLimits}
+use Rattle.calculator.specs.Calculator.{rateTests}
 use Rattle.accounting.specs.Counters.{zeroCounters}
 use Rattle.oracle.specs.declared.Ring.{Ring}
 use Rattle.oracle.specs.Ring.{Entries}
 use Rattle.pool.specs.declared.state.Pool.{Pool}
 use Rattle.receipt.specs.Receipt.{amounts}
 use Rattle.pool.specs.State.{decided, Done}
-
--- opening's limits on trade + creator and protocol + fund, whether creator fees are enabled or not, 3
-abbrev pub limitTests : Rates → Tests
-limitTests rates = rateLimits rates (rates .creator)
-
--- the rates of an opening: these limits, and share above 1,000,000, 3
-unfoldable pub rateTests : Rates → Tests
-rateTests rates = limitTests rates then ((ltb Million (rates .share), InvalidInput) ∷ [])
 
 -- status, counters and ring start at 0
 abbrev pub zeroRing : Ring

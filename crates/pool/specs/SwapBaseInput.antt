@@ -6,11 +6,10 @@ use lib.Dec.{ltb, eqb}
 use Rattle.refusal.specs.Refusal.{RequireViolated, InvalidVault, ZeroTradingTokens, ExceededSlippage}
 use Rattle.refusal.specs.Tests.{Tests, _then_}
 use Rattle.calculator.specs.declared.SwapResult.{SwapResult}
-use Rattle.calculator.specs.Calculator.{onInput, noSplit, swapBaseInput as swapWithFees}
+use Rattle.calculator.specs.Calculator.{limitTests, onInput, noSplit, swapBaseInput as swapWithFees}
 use Rattle.oracle.specs.Ring.{Entries}
 use Rattle.pool.specs.declared.state.Pool.{Pool}
 use Rattle.pool.specs.State.{creatorRate, Done}
-use Rattle.pool.specs.Opening.{limitTests}
 use Rattle.pool.specs.Swap.{netIn, netOut, closedTests, netTests, bookTests, swapped, decidedSwap}
 
 -- the rate limits, 3; bit 2 set or clock before open time, 1; amount 0, 10; direction 5

@@ -6,11 +6,10 @@ use lib.Dec.{ltb, eqb}
 use Rattle.refusal.specs.Refusal.{RequireViolated, InvalidVault, ExceededSlippage}
 use Rattle.refusal.specs.Tests.{Tests, _then_}
 use Rattle.calculator.specs.declared.SwapResult.{SwapResult}
-use Rattle.calculator.specs.Calculator.{onInput, quoteTests, swapBaseOutput as swapWithFees}
+use Rattle.calculator.specs.Calculator.{limitTests, onInput, quoteTests, swapBaseOutput as swapWithFees}
 use Rattle.oracle.specs.Ring.{Entries}
 use Rattle.pool.specs.declared.state.Pool.{Pool}
 use Rattle.pool.specs.State.{creatorRate, Done}
-use Rattle.pool.specs.Opening.{limitTests}
 use Rattle.pool.specs.Swap.{netIn, netOut, closedTests, netTests, bookTests, swapped, decidedSwap}
 
 -- rate limits 3; amount 0, 10; then 1, 5

@@ -6,13 +6,14 @@ use lib.Dec.{eqb}
 use Rattle.refusal.specs.Refusal.{UnreadableRow}
 use Rattle.refusal.specs.Tests.{first}
 use Rattle.calculator.specs.declared.Rates.{Rates}
+use Rattle.calculator.specs.Calculator.{rateTests}
 use Rattle.oracle.specs.Ring.{Entries}
 use Rattle.receipt.specs.declared.Receipt.{Receipt}
 use Rattle.pool.specs.declared.state.Pool.{Pool}
 use Rattle.pool.specs.declared.state.After.{After}
 use Rattle.receipt.specs.Receipt.{refusal}
 use Rattle.pool.specs.State.{net0, net1, Done}
-use Rattle.pool.specs.Opening.{rateTests, zeroRates, zeroPool, zeroEntries, opening}
+use Rattle.pool.specs.Opening.{zeroRates, zeroPool, zeroEntries, opening}
 use Rattle.pool.specs.SwapBaseInput.{swapBaseInput}
 use Rattle.pool.specs.SwapBaseOutput.{swapBaseOutput}
 use Rattle.pool.specs.Liquidity.{deposit, withdraw}

@@ -8,13 +8,13 @@ use Rattle.math.specs.Root.{root}
 use Rattle.refusal.specs.Tests.{_then_, first}
 use Rattle.refusal.proofs.Stops.{numbered, outcome-stop, outcome-go}
 use Rattle.calculator.specs.declared.Rates.{Rates}
-use Rattle.calculator.specs.Calculator.{rateLimits}
+use Rattle.calculator.specs.Calculator.{rateLimits, rateTests}
 use Rattle.receipt.specs.Receipt.{refusal, amounts}
 use Rattle.pool.specs.State.{refused, done}
 use Rattle.receipt.specs.declared.Receipt.{Receipt}
 use Rattle.pool.specs.declared.state.Pool.{Pool}
 use Rattle.pool.specs.declared.state.After.{After}
-use Rattle.pool.specs.Opening.{zeroEntries, zeroPool, openWith, openPool, openingFront, rateTests, openingTests, opening}
+use Rattle.pool.specs.Opening.{zeroEntries, zeroPool, openWith, openPool, openingFront, openingTests, opening}
 use borrow.Author.Needs.{needs}
 use Rattle.opening.proofs.open.Statement.{statement}
 use Rattle.opening.proofs.open.Tie as tie
