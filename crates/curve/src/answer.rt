@@ -9,7 +9,7 @@ pub enum Answer {
 }
 
 // A quotient as an answer: `none` is the number where there is no divisor, `past` where the result is past u64.
-pub fn from_quotient(quotient: Quotient, none: u64, past: u64) -> Answer
+pub(crate) fn from_quotient(quotient: Quotient, none: u64, past: u64) -> Answer
     ensures { λ r. ⌜ r ≡ answerOf none past quotient ⌝ }
 {
     match quotient {
