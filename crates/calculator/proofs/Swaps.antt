@@ -11,10 +11,10 @@ use lib.Dec.{eqb}
 use borrow.Author.Tests.{lt-ltb, le-ltb, lt-leb, ne-eqb}
 use types.Run.{OneOf}
 use denote.Enum.Declared.{tagOf}
+use Rattle.wide.specs.Division.{ceilDiv}
 use Rattle.math.specs.declared.ratio.Quotient.{Quotient}
 use Rattle.math.specs.declared.ratio.Quotient.the-variants as Q
 use Rattle.math.proofs.ratio.Quotient.{the-type}
-use Rattle.math.specs.Division.{ceilDiv}
 use Rattle.math.specs.Ratio.{fit, ceilOf}
 use Rattle.math.proofs.Rounding.{lt-or-le, floor-le-ceil, share-floor-le, share-ceil-le, fit-fits, fit-past, ceil-is}
 use Rattle.refusal.specs.Refusal.{Panic}

@@ -8,9 +8,9 @@ use Prim.Native.Nat.{ℕ, _+_, _*_, _/_, _%_, _^_, _<_, _≤_}
 use native.Mathlib.Nat.{eq-zero-or-pos}
 use native.Mathlib.Omega.{arith}
 use lib.Dec.{eqb}
+use Rattle.wide.specs.Division.{ceilDiv}
 use Rattle.math.specs.declared.ratio.Quotient.{Quotient}
 use Rattle.math.specs.declared.ratio.Quotient.the-variants as Q
-use Rattle.math.specs.Division.{ceilDiv}
 use Rattle.math.specs.Ratio.{fit, floorOf, ceilOf}
 use Rattle.math.proofs.Rounding.{lt-or-le, fit-fits, fit-past, floor-none, floor-is, ceil-none, ceil-is}
 use Rattle.refusal.specs.Tests.{outcome, past}

@@ -9,12 +9,12 @@ use native.Mathlib.Nat.{eq-zero-or-pos, pos-of-ne-zero}
 use native.Mathlib.Omega.{arith}
 use lib.Dec.{eqb}
 use borrow.Author.Tests.{eqb-true, eqb-false, eq-eqb, ne-eqb}
+use Rattle.wide.specs.declared.divide.Divided.{Divided}
+use Rattle.wide.specs.declared.U128.{U128}
+use Rattle.wide.specs.Value.{value}
+use Rattle.wide.specs.Division.{ceilDiv, divided}
 use Rattle.math.specs.declared.ratio.Parts.{Parts}
 use Rattle.math.specs.declared.ratio.Parts.the-variants as P
-use Rattle.math.specs.declared.divide.Divided.{Divided}
-use Rattle.math.specs.declared.wide.U128.{U128}
-use Rattle.math.specs.Value.{value}
-use Rattle.math.specs.Division.{ceilDiv, divided}
 use Rattle.math.specs.Ratio.{partsOf}
 use Rattle.math.proofs.Rounding.{lt-or-le, floor-le-ceil, ceil-exact, ceil-more}
 use Rattle.math.proofs.Answers.{parts-none, parts-fits, parts-past, halves-fit, halves-past}

@@ -1,13 +1,13 @@
 // The constant product curve: x × y does not fall. x is the net of the token that goes in, y of the one that comes out.
 use crate::answer::Answer;
 use crate::answer::from_quotient;
-use math::divide::Divided;
-use math::divide::div_rem;
 use math::ratio::mul_div_ceil;
 use math::ratio::mul_div_sum;
-use math::wide::widening_mul;
 use refusal::PANIC;
 use refusal::ZERO_TRADING_TOKENS;
+use wide::divide::Divided;
+use wide::divide::div_rem;
+use wide::widening_mul;
 ghost use mathlib.Core.Path.{_≡_};
 ghost use Rattle.curve.specs.ConstantProduct.{swapBaseInputWithoutFees, swapBaseOutputWithoutFees, lpPart, lpTokensToTradingTokens};
 ghost use Rattle.curve.specs.Stages.{roundedAnswer, tokensOf};

@@ -1,13 +1,13 @@
 // The arithmetic one function at a time, for the benchmark: each beside what u128 does.
-use math::divide::price_x32;
 use math::ratio::Quotient;
 use math::ratio::mul_div_ceil;
 use math::ratio::mul_div_floor;
 use math::ratio::mul_div_sum;
 use math::root::isqrt;
-use math::wide::U128;
-use math::wide::widening_mul;
-use math::wide::wrapping_add;
+use wide::U128;
+use wide::divide::price_x32;
+use wide::widening_mul;
+use wide::wrapping_add;
 ghost use mathlib.Core.Path.{_≡_};
 ghost use Prim.Native.Nat.{_+_, _*_, _/_, _%_, _^_};
 ghost use Rattle.math.specs.Ratio.{floorOf, ceilOf};

@@ -7,11 +7,11 @@ use native.Mathlib.Nat.{div-lt-iff-lt-mul, le-div-iff-mul-le, eq-zero-or-pos, ne
 use native.Mathlib.Omega.{arith}
 use lib.Dec.{ltb, eqb}
 use borrow.Author.Tests.{lt-ltb, le-ltb, eq-eqb, ne-eqb}
+use Rattle.wide.specs.Division.{divided, ceilDiv}
 use Rattle.math.specs.declared.ratio.Quotient.{Quotient}
 use Rattle.math.specs.declared.ratio.Quotient.the-variants as Q
 use Rattle.math.specs.declared.ratio.Parts.{Parts}
 use Rattle.math.specs.declared.ratio.Parts.the-variants as P
-use Rattle.math.specs.Division.{divided, ceilDiv}
 use Rattle.math.specs.Ratio.{fit, floorOf, ceilOf, partsOf}
 use Rattle.math.proofs.Rounding.{lt-or-le, floor-le-ceil, ceil-exact, ceil-more, fit-fits, fit-past, floor-none, floor-fits}
 use Rattle.math.proofs.Rounding.{floor-past, ceil-none, ceil-is, ceil-past}

@@ -3,8 +3,8 @@ use mathlib.Core.Path.{_≡_, sym, ap, _∙_}
 use Prim.Native.Nat.{ℕ, _+_, _-_, _*_, _/_, _%_, _^_, _≤_, _<_}
 use native.Mathlib.Nat.{mul-assoc, mul-add, mul-one}
 use native.Mathlib.Omega.{arith}
-use Rattle.math.specs.Steps.{Divides}
-use Rattle.math.proofs.Rounding.{once-less}
+use Rattle.wide.specs.Steps.{Divides}
+use Rattle.wide.proofs.Digit.{once-less}
 
 -- the half of two words
 top-bit : (high : ℕ) → high * 2 ^ 63 % 2 ^ 64 ≡ high % 2 * 2 ^ 63

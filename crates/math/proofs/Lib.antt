@@ -1,7 +1,3 @@
-pub mod Halves
-pub mod Words
-pub mod Digit
-pub mod Long
 pub mod Rounding
 pub mod Answers
 pub mod Shares

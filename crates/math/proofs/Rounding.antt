@@ -9,9 +9,11 @@ use native.Mathlib.Omega.{arith}
 use native.Mathlib.Decide.{decLt}
 use lib.Arith.{digits-div}
 use borrow.Author.Tests.{lt-ltb, le-ltb, eq-eqb, ne-eqb}
+use Rattle.wide.specs.Division.{ceilDiv}
+use Rattle.wide.proofs.Digit.{once-less}
+use Rattle.wide.proofs.Long.{parted}
 use Rattle.math.specs.declared.ratio.Quotient.{Quotient}
 use Rattle.math.specs.declared.ratio.Quotient.the-variants as Q
-use Rattle.math.specs.Division.{ceilDiv}
 use Rattle.math.specs.Ratio.{fit, floorOf, ceilOf}
 
 -- two numbers are in order one way or the other
@@ -21,12 +23,6 @@ lt-or-le a b = either (decLt a b)
     either : Dec (a < b) → (a < b) ⊎ (b ≤ a)
     either (yes p) = inl p
     either (no f) = inr (omega arith)
-
--- one time less
-pub once-less : (q d : ℕ) → 0 < q → (q - 1) * d + d ≡ q * d
-once-less q d h =
-    let e : q - 1 + 1 ≡ q = omega arith in
-    omega (arith, ap (λ (x : ℕ). x * d) e)
 
 -- ---- the quotient rounded down
 
@@ -100,23 +96,15 @@ module _ (n d : ℕ) where
 pub ceil-mono : (n m d : ℕ) → n ≤ m → ceilDiv n d ≤ ceilDiv m d
 ceil-mono n m d h = floor-mono (n + (d - 1)) (m + (d - 1)) d (omega arith)
 
--- ---- by parts: k times a number is k times its quotient, and k times what is left divided anew
-
-module _ (n k d : ℕ) (h : 0 < d) where
-  parted : n * k ≡ n % d * k + n / d * k * d
-  parted = omega (arith, ap (λ (x : ℕ). x * k) (div-add-mod' n d))
-
-  pub floor-parted : n * k / d ≡ n / d * k + n % d * k / d
-  floor-parted = ap (λ (x : ℕ). x / d) parted ∙ add-mul-div-right (n % d * k) (n / d * k) h ∙ add-comm (n % d * k / d) (n / d * k)
-
-  pub ceil-parted : ceilDiv (n * k) d ≡ n / d * k + ceilDiv (n % d * k) d
-  ceil-parted =
-      ap (λ (x : ℕ). x / d) (moved (n % d * k) (n / d * k * d) parted)
-      ∙ add-mul-div-right (n % d * k + (d - 1)) (n / d * k) h
-      ∙ add-comm (ceilDiv (n % d * k) d) (n / d * k)
-    where
-      moved : (r q : ℕ) → n * k ≡ r + q → n * k + (d - 1) ≡ r + (d - 1) + q
-      moved r q e = omega arith
+-- by parts: k times a number, rounded up, is k times its quotient, and k times what is left divided anew
+pub ceil-parted : (n k d : ℕ) → 0 < d → ceilDiv (n * k) d ≡ n / d * k + ceilDiv (n % d * k) d
+ceil-parted n k d h =
+    ap (λ (x : ℕ). x / d) (moved (n % d * k) (n / d * k * d) (parted n k d))
+    ∙ add-mul-div-right (n % d * k + (d - 1)) (n / d * k) h
+    ∙ add-comm (ceilDiv (n % d * k) d) (n / d * k)
+  where
+    moved : (r q : ℕ) → n * k ≡ r + q → n * k + (d - 1) ≡ r + (d - 1) + q
+    moved r q e = omega arith
 
 -- ---- shares of an amount at rates of a whole
 

@@ -3,10 +3,11 @@ use mathlib.Core.Path.{_≡_, sym, ap, _∙_, subst}
 use Prim.Native.Nat.{ℕ, _+_, _-_, _*_, _/_, _%_, _^_, _≤_, _<_}
 use native.Mathlib.Nat.{mul-le-mul, mul-le-mul-left, le-trans, lt-of-le-of-lt, mod-lt, div-lt-iff-lt-mul, le-div-iff-mul-le}
 use native.Mathlib.Omega.{arith}
+use Rattle.wide.specs.Division.{ceilDiv}
+use Rattle.wide.proofs.Long.{floor-parted}
 use Rattle.math.specs.declared.ratio.Quotient.the-variants as Q
-use Rattle.math.specs.Division.{ceilDiv}
 use Rattle.math.specs.Ratio.{ceilOf}
-use Rattle.math.proofs.Rounding.{floor-le, floor-parted, ceil-parted, share-floor-le, share-ceil-le, ceil-fits, ceil-past}
+use Rattle.math.proofs.Rounding.{floor-le, ceil-parted, share-floor-le, share-ceil-le, ceil-fits, ceil-past}
 
 -- what a division by d leaves, k times
 module _ (n k d : ℕ) (hd : 0 < d) (short : d ≤ 2 ^ 32) (hk : k ≤ 2 ^ 32) where

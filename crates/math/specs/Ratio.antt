@@ -2,11 +2,11 @@
 use mathlib.Core.Bool.{cond}
 use Prim.Native.Nat.{ℕ, _/_, _^_}
 use lib.Dec.{ltb, eqb}
+use Rattle.wide.specs.Division.{divided, ceilDiv}
 use Rattle.math.specs.declared.ratio.Quotient.{Quotient}
 use Rattle.math.specs.declared.ratio.Quotient.the-variants as Q
 use Rattle.math.specs.declared.ratio.Parts.{Parts}
 use Rattle.math.specs.declared.ratio.Parts.the-variants as P
-use Rattle.math.specs.Division.{divided, ceilDiv}
 
 -- a number that fits a u64, or is past 2 ^ 64 - 1
 unfoldable pub fit : ℕ → Quotient

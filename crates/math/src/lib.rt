@@ -1,6 +1,4 @@
-// The arithmetic of the pool, the Rust's utils/math.rs: `u128` as two u64 halves, quotients rounded down and up, whole roots.
-pub mod divide;
+// The arithmetic of the pool, the Rust's utils/math.rs: quotients rounded down and up, shares at a rate, whole roots.
 pub mod ratio;
 pub mod root;
 pub mod share;
-pub mod wide;

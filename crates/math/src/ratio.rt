@@ -1,11 +1,11 @@
 // a * b / d on u64, with no loss: rounded down, rounded up, with the remainder, and by a divisor of 65 bits.
-use crate::divide::Divided;
-use crate::divide::div_rem;
-use crate::wide::U128;
-use crate::wide::widening_mul;
+use wide::U128;
+use wide::divide::Divided;
+use wide::divide::div_rem;
+use wide::widening_mul;
 ghost use mathlib.Core.Path.{_≡_};
 ghost use Prim.Native.Nat.{_+_, _*_, _/_, _<_};
-ghost use Rattle.math.specs.Value.{value};
+ghost use Rattle.wide.specs.Value.{value};
 ghost use Rattle.math.specs.Ratio.{partsOf, floorOf, ceilOf};
 
 // A quotient: it fits a u64, or is past one, or the divisor is 0.
@@ -23,7 +23,7 @@ pub enum Parts {
 }
 
 // a * b / d, rounded down, with the remainder.
-pub fn mul_div(a: u64, b: u64, d: u64) -> Parts
+fn mul_div(a: u64, b: u64, d: u64) -> Parts
     ensures { λ r. ⌜ r ≡ partsOf (a * b) d ⌝ }
 {
     if d == 0 {

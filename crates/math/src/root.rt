@@ -1,12 +1,12 @@
 // Whole square roots, by Newton's iteration from above: an opening's supply is the whole root of its product.
-use crate::divide::div_rem;
-use crate::wide::U128;
+use wide::U128;
+use wide::divide::div_rem;
 ghost use mathlib.Core.Path.{_≡_};
 ghost use Rattle.math.specs.Root.{root};
-ghost use Rattle.math.specs.Value.{value};
+ghost use Rattle.wide.specs.Value.{value};
 
 // The first guess is a power of two.
-pub fn isqrt_u64(x: u64) -> u64
+fn isqrt_u64(x: u64) -> u64
     ensures { λ r. ⌜ r ≡ root x ⌝ }
 {
     if x == 0 {

@@ -4,8 +4,8 @@ use mathlib.Core.Bool.{Bool, true, false, cond, _||_}
 use Prim.Native.Nat.{ℕ, _-_, _*_, _≤_, _<_}
 use lib.Dec.{ltb, leb, eqb}
 use borrow.Author.Tests.{le-leb, lt-leb}
-use Rattle.math.specs.Value.{value}
-use Rattle.math.proofs.Words.{value-u128Of}
+use Rattle.wide.specs.Value.{value}
+use Rattle.wide.proofs.Words.{value-u128Of}
 use Rattle.refusal.specs.Tests.{outcome}
 use Rattle.oracle.specs.declared.Ring.{Ring}
 use Rattle.oracle.specs.declared.Observation.{Observation}

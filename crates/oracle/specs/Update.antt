@@ -1,6 +1,6 @@
 -- The ring's update as the code answers it: a number, the head, and what the entries then hold.
 use Prim.Native.Nat.{ℕ}
-use Rattle.math.specs.Value.{value}
+use Rattle.wide.specs.Value.{value}
 use Rattle.refusal.specs.Tests.{outcome}
 use Rattle.oracle.specs.declared.Ring.{Ring}
 use Rattle.oracle.specs.declared.Observation.{Observation}

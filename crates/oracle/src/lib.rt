@@ -1,18 +1,18 @@
 // The price ring: 100 entries of a clock and two sums of prices (the original's states/oracle.rs).
-use math::divide::price_x32;
-use math::wide::Product;
-use math::wide::U128;
-use math::wide::checked_mul;
-use math::wide::wrapping_add;
 use refusal::ACCEPTED;
 use refusal::MATH_OVERFLOW;
 use refusal::PANIC;
+use wide::Product;
+use wide::U128;
+use wide::checked_mul;
+use wide::divide::price_x32;
+use wide::wrapping_add;
 ghost use mathlib.Core.Path.{_≡_};
 ghost use mathlib.Core.Bool.{cond};
 ghost use Prim.Native.Nat.{_<_};
 ghost use lib.Dec.{eqb};
 ghost use lib.ListN.{length};
-ghost use Rattle.math.specs.Value.{value};
+ghost use Rattle.wide.specs.Value.{value};
 ghost use Rattle.oracle.specs.Ring.{price, entryAt, withEntry, nextIndex, head};
 ghost use Rattle.oracle.specs.Update.{answered, update as updateOf, answerOf, storedIn, entryOf, afterOf};
 ghost use Rattle.oracle.specs.Stages.{firstUse, sumAfter, movedEntry, movedSums};

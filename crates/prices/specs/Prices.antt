@@ -2,7 +2,7 @@
 use Prim.Native.Nat.{ℕ}
 use mathlib.Core.List.{[], _∷_}
 use lib.Dec.{eqb}
-use Rattle.math.specs.Value.{u128Of}
+use Rattle.wide.specs.Value.{u128Of}
 use Rattle.refusal.specs.Refusal.{Panic}
 use Rattle.refusal.specs.Tests.{Tests, _then_, outcome}
 use Rattle.accounting.specs.Counters.{counterTests}

@@ -1,9 +1,9 @@
 // Reading the prices that the ring would count now.
 use accounting::Nets;
-use math::wide::U128;
 use oracle::token_price_x32;
 use pool::state::Pool;
 use refusal::PANIC;
+use wide::U128;
 ghost use mathlib.Core.Path.{_≡_};
 ghost use Rattle.prices.specs.Prices.{pricesOf, pricesAnswer};
 

@@ -1,7 +1,7 @@
 -- `leaves::leaf_sum_high` meets its contract: the high half of the sum.
 -- Assumes nothing.
 use mathlib.Core.Path.{ap}
-use Rattle.math.specs.declared.wide.U128.{U128}
+use Rattle.wide.specs.declared.U128.{U128}
 use borrow.Author.Needs.{needs}
 use Rattle.leaves.proofs.leaf_sum_high.Statement.{statement}
 use Rattle.leaves.proofs.leaf_sum_high.Tie as tie

@@ -3,8 +3,8 @@
 use Prim.Native.Nat.{_^_, _<_}
 use mathlib.Core.Path.{_≡_, ap, _∙_}
 use native.Mathlib.Omega.{arith}
-use Rattle.math.specs.Value.{u128Of}
-use Rattle.math.proofs.Words.{words-are}
+use Rattle.wide.specs.Value.{u128Of}
+use Rattle.wide.proofs.Words.{words-are}
 use Rattle.refusal.proofs.Stops.{turns, outcome-at, outcome-all}
 use Rattle.oracle.specs.Ring.{price}
 use Rattle.prices.specs.Prices.{pricesOf}

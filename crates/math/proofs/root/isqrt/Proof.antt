@@ -5,10 +5,10 @@ use native.Mathlib.Nat.{lt-trans, le-of-lt, lt-of-le-of-lt}
 use native.Mathlib.Omega.{arith}
 use lib.Dec.{lit<}
 use borrow.Author.Needs.{needs}
-use Rattle.math.specs.declared.divide.Divided.{Divided}
+use Rattle.wide.specs.declared.divide.Divided.{Divided}
+use Rattle.wide.specs.Value.{value}
+use Rattle.wide.proofs.Words.{halves-lt, low-only}
 use Rattle.math.specs.Root.{IsRoot, root}
-use Rattle.math.specs.Value.{value}
-use Rattle.math.proofs.Words.{halves-lt, low-only}
 use Rattle.math.proofs.WholeRoot.{is-the-root, of-root, root-short}
 use Rattle.math.proofs.Newton.{raised-guess, step-wide, low-of-high, low-of-le}
 use Rattle.math.proofs.root.isqrt.Statement.{statement}

@@ -1,7 +1,7 @@
 -- `math::share::share_floor` meets its contract: the quotient and what is left are scaled apart (`floor-parted`).
 use mathlib.Core.Path.{sym}
 use native.Mathlib.Nat.{le-trans}
-use Rattle.math.proofs.Rounding.{floor-parted}
+use Rattle.wide.proofs.Long.{floor-parted}
 use Rattle.math.proofs.Shares.{rest-fits, times-fits, floor-sum-fits}
 use borrow.Author.Needs.{needs}
 use Rattle.math.proofs.share.share_floor.Statement.{statement}

@@ -1,0 +1,62 @@
+-- `wide::divide::fraction_x32` meets its contract: below 2 ^ 32 by one division, else by one digit of the shifted numbers (`fraction`).
+use native.Mathlib.Nat.{le-trans, mod-eq-of-lt}
+use lib.Dec.{lit≤, lit<}
+use Rattle.wide.proofs.Long.{shifted-lt, shifted-word, fraction}
+use borrow.Author.Needs.{needs}
+use Rattle.wide.proofs.divide.fraction_x32.Statement.{statement}
+use Rattle.wide.proofs.divide.fraction_x32.Tie as tie
+
+mul-result : tie.Need-mul-result
+mul-result c = search needs
+
+div-result : tie.Need-div-result
+div-result c = search needs
+
+returns : tie.Need-returns
+returns c = search needs
+
+norm-shift-requires : tie.Need-norm-shift-requires
+norm-shift-requires c κs = search needs
+
+cast-digit : tie.Need-cast-digit
+cast-digit c = search needs
+
+shl-digit : tie.Need-shl-digit
+shl-digit c = search needs
+
+cast-digit-2 : tie.Need-cast-digit-2
+cast-digit-2 c = search needs
+
+shl-digit-2 : tie.Need-shl-digit-2
+shl-digit-2 c = search needs
+
+digit-requires : tie.Need-digit-requires
+digit-requires c κs =
+    let s = c .before .before in
+    let e = c .norm-shift .ensures in
+    let k = c .norm-shift .result in (
+      rw (mod-eq-of-lt (e .1)) (le-trans (lit≤ tt) (e .0)),
+      rw (mod-eq-of-lt (e .1), shifted-word (s .args .a) (s .args .b) k (s .pre) (e .1)) (shifted-lt (s .args .a) (s .args .b) k (s .pre) (e .1)),
+      lit< tt,
+    )
+
+returns-2 : tie.Need-returns-2
+returns-2 c =
+    let n = c .before in
+    let s = n .before .before in
+    fraction (s .args .a) (s .args .b) (n .norm-shift .result) (s .pre) (n .norm-shift .ensures .1) _ _ (c .digit .ensures)
+
+pub fraction-x32-spec : {M : Type 1} → statement M
+fraction-x32-spec =
+    tie.close
+    (tie.spec
+    mul-result
+    div-result
+    returns
+    norm-shift-requires
+    cast-digit
+    shl-digit
+    cast-digit-2
+    shl-digit-2
+    digit-requires
+    returns-2)
