@@ -124,9 +124,6 @@ fn fraction_x32(a: u64, b: u64) -> u64
     requires { ⌜ a < b ⌝ }
     ensures { λ r. ⌜ r ≡ a * 2 ^ 32 / b ⌝ }
 {
-    if a < 0x1_0000_0000 {
-        return a * 0x1_0000_0000 / b;
-    }
     let shift = norm_shift(b);
     digit(a << shift, 0, b << shift).quotient
 }
@@ -136,6 +133,12 @@ pub fn price_x32(a: u64, b: u64) -> U128
     requires { ⌜ 0 < b ⌝ }
     ensures { λ r. ⌜ value r ≡ a * 2 ^ 32 / b ⌝ }
 {
+    if a < 0x1_0000_0000 {
+        return U128 {
+            high: 0,
+            low: a * 0x1_0000_0000 / b,
+        };
+    }
     let whole = a / b;
     let fraction = fraction_x32(a % b, b);
     U128 {

@@ -1,19 +1,10 @@
--- `wide::divide::fraction_x32` meets its contract: below 2 ^ 32 by one division, else by one digit of the shifted numbers (`fraction`).
+-- `wide::divide::fraction_x32` meets its contract: one digit of the shifted numbers (`fraction`).
 use native.Mathlib.Nat.{le-trans, mod-eq-of-lt}
 use lib.Dec.{lit≤, lit<}
 use Rattle.wide.proofs.Long.{shifted-lt, shifted-word, fraction}
 use borrow.Author.Needs.{needs}
 use Rattle.wide.proofs.divide.fraction_x32.Statement.{statement}
 use Rattle.wide.proofs.divide.fraction_x32.Tie as tie
-
-mul-result : tie.Need-mul-result
-mul-result c = search needs
-
-div-result : tie.Need-div-result
-div-result c = search needs
-
-returns : tie.Need-returns
-returns c = search needs
 
 norm-shift-requires : tie.Need-norm-shift-requires
 norm-shift-requires c κs = search needs
@@ -32,7 +23,7 @@ shl-digit-2 c = search needs
 
 digit-requires : tie.Need-digit-requires
 digit-requires c κs =
-    let s = c .before .before in
+    let s = c .before in
     let e = c .norm-shift .ensures in
     let k = c .norm-shift .result in (
       rw (mod-eq-of-lt (e .1)) (le-trans (lit≤ tt) (e .0)),
@@ -40,23 +31,20 @@ digit-requires c κs =
       lit< tt,
     )
 
-returns-2 : tie.Need-returns-2
-returns-2 c =
+returns : tie.Need-returns
+returns c =
     let n = c .before in
-    let s = n .before .before in
+    let s = n .before in
     fraction (s .args .a) (s .args .b) (n .norm-shift .result) (s .pre) (n .norm-shift .ensures .1) _ _ (c .digit .ensures)
 
 pub fraction-x32-spec : {M : Type 1} → statement M
 fraction-x32-spec =
     tie.close
     (tie.spec
-    mul-result
-    div-result
-    returns
     norm-shift-requires
     cast-digit
     shl-digit
     cast-digit-2
     shl-digit-2
     digit-requires
-    returns-2)
+    returns)
