@@ -2,7 +2,7 @@
 -- half of d; it is right, or too high by one or two, and the flags of the program say by which.
 use mathlib.Core.Path.{_≡_, sym, ap, _∙_, subst}
 use Prim.Native.Nat.{ℕ, zero, suc, _+_, _-_, _*_, _/_, _%_, _^_, _≤_, _<_}
-use native.Mathlib.Nat.{one-mul, zero-mul, mul-le-mul, div-add-mod', mod-lt, mod-add-mod, not-suc-le-zero, zero-lt-suc, div-lt-iff-lt-mul}
+use native.Mathlib.Nat.{one-mul, zero-mul, mul-le-mul, mul-le-mul-right, div-add-mod', mod-lt, not-suc-le-zero, zero-lt-suc, div-lt-iff-lt-mul}
 use native.Mathlib.Omega.{arith}
 use mathlib.Core.Logic.{⊎-elim}
 use Rattle.wide.specs.Steps.{Divides, Less}
@@ -77,16 +77,6 @@ module _ (h l d : ℕ) (top : 2 ^ 63 ≤ d) (hh : h < d) (hl : l < 2 ^ 32) where
   pub two-high : d < taken h d - rest h l d → Divides (h * 2 ^ 32 + l) d (estimate h d - 1 - 1) (rest h l d + d + d - taken h d)
   two-high t = record { whole = omega (arith, same, once-less (estimate h d) d (one-pos (omega arith)), once-less (estimate h d - 1) d (two-pos t), taken-lt); less = omega arith }
 
--- a difference of words that wraps, of a sum of words that wraps twice, is the difference itself where that is below a word
-unwrapped : (x n a b w n₁ n₂ : ℕ)
-    → (x + w) % 2 ^ 64 ≡ n₂ → n₂ ≡ (n₁ + b) % 2 ^ 64 → n₁ ≡ (n + a) % 2 ^ 64
-    → x < 2 ^ 64 → w ≤ n + a + b → n + a + b - w < 2 ^ 64 → x ≡ n + a + b - w
-unwrapped x n a b w n₁ n₂ e e₂ e₁ hx hw hr =
-    close x w (n + a + b) (e ∙ e₂ ∙ ap (λ (y : ℕ). (y + b) % 2 ^ 64) e₁ ∙ mod-add-mod (n + a) (2 ^ 64) b) hx hw hr
-  where
-    close : (x w s : ℕ) → (x + w) % 2 ^ 64 ≡ s % 2 ^ 64 → x < 2 ^ 64 → w ≤ s → s - w < 2 ^ 64 → x ≡ s - w
-    close x w s e hx hw hr = omega arith
-
 -- a flag times d
 flag-none : {f : ℕ} (d : ℕ) → f ≡ 0 → f * d ≡ 0
 flag-none d e = ap (λ (x : ℕ). x * d) e ∙ zero-mul d
@@ -94,85 +84,106 @@ flag-none d e = ap (λ (x : ℕ). x * d) e ∙ zero-mul d
 flag-one : {f : ℕ} (d : ℕ) → f ≡ 1 → f * d ≡ d
 flag-one d e = ap (λ (x : ℕ). x * d) e ∙ one-mul d
 
--- a flag times a word is a word
-pub flag-lt : (a b f d : ℕ) → Less a b f → d < 2 ^ 64 → f * d < 2 ^ 64
-flag-lt a b f d w h = ⊎-elim (λ x. omega (arith, flag-one d (x .1))) (λ x. omega (arith, flag-none d (x .1))) w
+-- a flag is 0 or 1
+pub flag-le : (a b f : ℕ) → Less a b f → f ≤ 1
+flag-le a b f w = ⊎-elim (λ x. omega (arith, x .1)) (λ x. omega (arith, x .1)) w
+
+-- and such a number times a word is a word
+pub times-lt : (f d : ℕ) → f ≤ 1 → d < 2 ^ 64 → f * d < 2 ^ 64
+times-lt f d h l = omega (arith, mul-le-mul-right d h, one-mul d)
+
+-- a difference of words that wraps, with d added to it that wraps again
+module _ (r t left : ℕ) (el : (left + t) % 2 ^ 64 ≡ r) (hl : left < 2 ^ 64) (ht : t < 2 ^ 64) where
+  not-wrapped : t ≤ r → left ≡ r - t
+  not-wrapped h = omega arith
+
+  wrapped : r < t → left + t ≡ r + 2 ^ 64
+  wrapped h = omega arith
+
+module _ (r t left d once : ℕ) (h : r < t) (ht : t < 2 ^ 64) (w : left + t ≡ r + 2 ^ 64) (hd : d < 2 ^ 64) (eo : once ≡ (left + d) % 2 ^ 64) where
+  -- it is below d where that was enough
+  enough : once < d → (t - r ≤ d) × (once ≡ r + d - t)
+  enough b = (omega arith, omega arith)
+
+  -- and at d or above where it was not
+  too-few : d ≤ once → (d < t - r) × (once + t ≡ r + d + 2 ^ 64)
+  too-few b = (omega arith, omega arith)
+
+-- with d added once more
+once-more : (r t d once x : ℕ) → d < t - r → t < d + d → d < 2 ^ 64 → once + t ≡ r + d + 2 ^ 64 → x ≡ (once + d) % 2 ^ 64 → x ≡ r + d + d - t
+once-more r t d once x h u hd e ex = omega arith
+
+-- a division, with its quotient and its remainder said otherwise
+said : {n d k x k′ x′ : ℕ} → k ≡ k′ → x′ ≡ x → Divides n d k x → Divides n d k′ x′
+said {n} {d} {k} {x} {k′} {x′} e f w = subst (λ (y : ℕ). Divides n d k′ y) (sym f) (subst (λ (y : ℕ). Divides n d y x) e w)
 
 module _
     (h l d : ℕ) (top : 2 ^ 63 ≤ d) (hd : d < 2 ^ 64) (hh : h < d) (hl : l < 2 ^ 32)
-    (one two e : ℕ) (f₁ : Less (rest h l d) (taken h d) one) (ee : e ≡ taken h d - rest h l d) (f₂ : Less d e two) where
+    (one left once below : ℕ) (f₁ : Less (rest h l d) (taken h d) one) (el : (left + taken h d) % 2 ^ 64 ≡ rest h l d) (hw : left < 2 ^ 64)
+    (eo : once ≡ (left + one * d) % 2 ^ 64) (f₂ : Less once d below) where
   -- the estimate, less what it is too high by, and what that leaves
   record Mended : Type 1 where
-    R : ℕ
-    divides : Divides (h * 2 ^ 32 + l) d (estimate h d - one - two) R
-    sum : rest h l d + one * d + two * d ≡ R + taken h d
-    enough : one + two ≤ estimate h d
+    flags : one + (1 - below) ≤ estimate h d
+    divides : (x : ℕ) → x ≡ (once + (1 - below) * d) % 2 ^ 64 → Divides (h * 2 ^ 32 + l) d (estimate h d - one - (1 - below)) x
+
+  taken-fits : taken h d < 2 ^ 64
+  taken-fits = taken-lt h l d top hh hl
+
+  -- no more is added
+  last : (x : ℕ) → below ≡ 1 → once < d → x ≡ (once + (1 - below) * d) % 2 ^ 64 → x ≡ once
+  last x e b ex = omega (arith, flag-none {f = 1 - below} d (omega arith))
+
+  -- the estimate is right: then `once` is below d
+  once-right : taken h d ≤ rest h l d → one ≡ 0 → once ≡ rest h l d - taken h d
+  once-right a e = omega (arith, not-wrapped (rest h l d) (taken h d) left el hw taken-fits a, flag-none d e)
+
+  none-off : taken h d ≤ rest h l d → one ≡ 0 → below ≡ 1 → once < d → Mended
+  none-off a e f b = record {
+    flags = omega arith;
+    divides = λ x ex. said (omega arith) (last x f b ex ∙ once-right a e) (right h l d top hh hl a);
+  }
+
+  never : taken h d ≤ rest h l d → one ≡ 0 → d ≤ once → ⊥
+  never a e b = omega (arith, once-right a e, rest-lt h l d top hh hl)
+
+  -- it is too high: d was added once
+  module _ (a : rest h l d < taken h d) (e : one ≡ 1) where
+    added : once ≡ (left + d) % 2 ^ 64
+    added = eo ∙ ap (λ (x : ℕ). (left + x) % 2 ^ 64) (flag-one d e)
+
+    high-by : left + taken h d ≡ rest h l d + 2 ^ 64
+    high-by = wrapped (rest h l d) (taken h d) left el hw taken-fits a
+
+    one-off : once < d → below ≡ 1 → Mended
+    one-off b f =
+        let g = enough (rest h l d) (taken h d) left d once a taken-fits high-by hd added b in
+        record {
+          flags = omega (arith, one-pos h l d top hh hl a);
+          divides = λ x ex. said (omega arith) (last x f b ex ∙ g .1) (one-high h l d top hh hl a (g .0));
+        }
+
+    two-off : d ≤ once → below ≡ 0 → Mended
+    two-off b f =
+        let g = too-few (rest h l d) (taken h d) left d once a taken-fits high-by hd added b in
+        let more : (1 - below) * d ≡ d = flag-one {f = 1 - below} d (omega arith) in
+        record {
+          flags = omega (arith, two-pos h l d top hh hl (g .0));
+          divides = λ x ex. said (omega arith)
+              (once-more (rest h l d) (taken h d) d once x (g .0) (omega (arith, taken-fits)) hd (g .1) (ex ∙ ap (λ (y : ℕ). (once + y) % 2 ^ 64) more))
+              (two-high h l d top hh hl (g .0));
+        }
 
   mended : Mended
   mended =
       ⊎-elim
-      (λ a. ⊎-elim
-      (λ b. let t : d < taken h d - rest h l d = subst (λ (x : ℕ). d < x) ee (b .0) in
-      let p : 0 < estimate h d - 1 = two-pos h l d top hh hl t in
-      let wl : taken h d < 2 ^ 64 = taken-lt h l d top hh hl in
-      record {
-        R = rest h l d + d + d - taken h d;
-        divides = subst (λ (k : ℕ). Divides (h * 2 ^ 32 + l) d k (rest h l d + d + d - taken h d)) (less-two (a .1) (b .1)) (two-high h l d top hh hl t);
-        sum = omega (arith, flag-one d (a .1), flag-one d (b .1));
-        enough = omega arith;
-      })
-      (λ b. let p : 0 < estimate h d = one-pos h l d top hh hl (a .0) in
-      record {
-        R = rest h l d + d - taken h d;
-        divides = subst (λ (k : ℕ). Divides (h * 2 ^ 32 + l) d k (rest h l d + d - taken h d)) (less-one (a .1) (b .1)) (one-high h l d top hh hl (a .0) (subst (λ (x : ℕ). x ≤ d) ee (b .0)));
-        sum = omega (arith, flag-one d (a .1), flag-none d (b .1));
-        enough = omega arith;
-      })
-      f₂)
-      (λ a. ⊎-elim
-      (λ b. absurd (never (a .0) (b .0)))
-      (λ b. record {
-        R = rest h l d - taken h d;
-        divides = subst (λ (k : ℕ). Divides (h * 2 ^ 32 + l) d k (rest h l d - taken h d)) (less-none (a .1) (b .1)) (right h l d top hh hl (a .0));
-        sum = omega (arith, flag-none d (a .1), flag-none d (b .1));
-        enough = omega arith;
-      })
-      f₂)
+      (λ a. ⊎-elim (λ b. one-off (a .0) (a .1) (b .0) (b .1)) (λ b. two-off (a .0) (a .1) (b .0) (b .1)) f₂)
+      (λ a. ⊎-elim (λ b. none-off (a .0) (a .1) (b .1) (b .0)) (λ b. absurd (never (a .0) (a .1) (b .0))) f₂)
       f₁
-    where
-      less-two : one ≡ 1 → two ≡ 1 → estimate h d - 1 - 1 ≡ estimate h d - one - two
-      less-two x y = λ i. estimate h d - sym x i - sym y i
-
-      less-one : one ≡ 1 → two ≡ 0 → estimate h d - 1 ≡ estimate h d - one - two
-      less-one x y = omega arith
-
-      less-none : one ≡ 0 → two ≡ 0 → estimate h d ≡ estimate h d - one - two
-      less-none x y = omega arith
-
-      never : taken h d ≤ rest h l d → d < e → ⊥
-      never x y = omega arith
 
   -- the flags are not more than the estimate
-  pub flags-le : one + two ≤ estimate h d
-  flags-le = mended .enough
+  pub flags-le : one + (1 - below) ≤ estimate h d
+  flags-le = mended .flags
 
-  -- and the wrapping sums and differences come to what is left
-  pub flags-done : (x n₁ n₂ : ℕ)
-      → n₁ ≡ (rest h l d + one * d) % 2 ^ 64 → n₂ ≡ (n₁ + two * d) % 2 ^ 64 → (x + taken h d) % 2 ^ 64 ≡ n₂ → x < 2 ^ 64
-      → Divides (h * 2 ^ 32 + l) d (estimate h d - one - two) x
-  flags-done x n₁ n₂ e₁ e₂ ex hx =
-      let m = mended in
-      let R : ℕ = m .R in
-      let W : ℕ = taken h d in
-      let S : ℕ = rest h l d + one * d + two * d in
-      let is : x ≡ S - W = unwrapped x (rest h l d) (one * d) (two * d) W n₁ n₂ ex e₂ e₁ hx (ge S R W (m .sum)) (small S R W (m .sum) (m .divides .less)) in
-      subst (λ (r : ℕ). Divides (h * 2 ^ 32 + l) d (estimate h d - one - two) r) (sym (is ∙ diff S R W (m .sum))) (m .divides)
-    where
-      ge : (S R W : ℕ) → S ≡ R + W → W ≤ S
-      ge S R W e = omega arith
-
-      small : (S R W : ℕ) → S ≡ R + W → R < d → S - W < 2 ^ 64
-      small S R W e l = omega arith
-
-      diff : (S R W : ℕ) → S ≡ R + W → S - W ≡ R
-      diff S R W e = omega arith
+  -- and the last sum is what is left
+  pub flags-done : (x : ℕ) → x ≡ (once + (1 - below) * d) % 2 ^ 64 → Divides (h * 2 ^ 32 + l) d (estimate h d - one - (1 - below)) x
+  flags-done = mended .divides

@@ -1,7 +1,7 @@
 // A number of 128 bits divided by a u64, in digits of 32 bits.
 use crate::U128;
 ghost use mathlib.Core.Path.{_≡_};
-ghost use Prim.Native.Nat.{_+_, _-_, _*_, _/_, _^_, _≤_, _<_};
+ghost use Prim.Native.Nat.{_+_, _*_, _/_, _^_, _≤_, _<_};
 ghost use Rattle.wide.specs.Value.{value};
 ghost use Rattle.wide.specs.Division.{divided, dividedWide};
 ghost use Rattle.wide.specs.Steps.{Divides, Less};
@@ -25,14 +25,8 @@ fn less(a: u64, b: u64) -> u64
     if a < b { 1 } else { 0 }
 }
 
-// How far a is past b.
-fn excess(a: u64, b: u64) -> u64
-    ensures { λ r. ⌜ r ≡ a - b ⌝ }
-{
-    if b < a { a - b } else { 0 }
-}
-
 // One digit of a quotient, and what is left. The estimate by the divisor's upper half is right, or too high by one or two.
+// What it leaves wraps where it is too high; with d added once it is below d, unless d must be added again.
 fn digit(high: u64, low: u64, d: u64) -> Divided
     requires { ⌜ (2 ^ 63 ≤ d) × (high < d) × (low < 2 ^ 32) ⌝ }
     ensures { λ r. ⌜ Divides (high * 2 ^ 32 + low) d (r .quotient) (r .remainder) ⌝ }
@@ -43,12 +37,12 @@ fn digit(high: u64, low: u64, d: u64) -> Divided
     let rest = high % upper * 0x1_0000_0000 + low;
     let taken = estimate * lower;
     let one = less(rest, taken);
-    let two = less(d, excess(taken, rest));
-    let once = std::num::wrapping_add_u64(rest, one * d);
-    let twice = std::num::wrapping_add_u64(once, two * d);
+    let left = std::num::wrapping_sub_u64(rest, taken);
+    let once = std::num::wrapping_add_u64(left, one * d);
+    let two = 1 - less(once, d);
     Divided {
         quotient: estimate - one - two,
-        remainder: std::num::wrapping_sub_u64(twice, taken),
+        remainder: std::num::wrapping_add_u64(once, two * d),
     }
 }
 

@@ -2,7 +2,7 @@
 use Prim.Native.Nat.{ℕ, _+_, _-_, _*_, _/_, _%_, _^_, _≤_, _<_}
 use native.Mathlib.Nat.{lt-trans, lt-of-le-of-lt, le-add-right}
 use native.Mathlib.Omega.{arith}
-use Rattle.wide.proofs.Digit.{rest-lt, taken-lt, flag-lt, flags-le, flags-done}
+use Rattle.wide.proofs.Digit.{rest-lt, taken-lt, flag-le, times-lt, flags-le, flags-done}
 use borrow.Author.Needs.{needs}
 use Rattle.wide.proofs.divide.digit.Statement.{statement}
 use Rattle.wide.proofs.divide.digit.Tie as tie
@@ -10,14 +10,21 @@ use Rattle.wide.proofs.divide.digit.Tie as tie
 sum-lt : (c : tie.Start) → c .args .high % (c .args .d / 2 ^ 32) * 2 ^ 32 + c .args .low < 2 ^ 64
 sum-lt c = lt-trans (rest-lt (c .args .high) (c .args .low) (c .args .d) (c .pre .0) (c .pre .1) (c .pre .2)) (c .fits .d .fits)
 
+left-lt : (c : tie.After-wrapping-sub-u64) → c .wrapping-sub-u64 .result < 2 ^ 64
+left-lt c = search needs
+
 both-le : (c : tie.After-less2) →
-    let s = c .before .before .before in
-    c .before .before .less .result + c .less2 .result ≤ s .args .high / (s .args .d / 2 ^ 32)
+    let o = c .before in
+    let x = o .before .before in
+    x .less .result + (1 - c .less2 .result) ≤ x .before .args .high / (x .before .args .d / 2 ^ 32)
 both-le c =
-    let x = c .before .before in
+    let o = c .before in
+    let w = o .before in
+    let x = w .before in
     let s = x .before in
     flags-le (s .args .high) (s .args .low) (s .args .d) (s .pre .0) (s .fits .d .fits) (s .pre .1) (s .pre .2)
-    (x .less .result) (c .less2 .result) (c .before .excess .result) (x .less .ensures) (c .before .excess .ensures) (c .less2 .ensures)
+    (x .less .result) (w .wrapping-sub-u64 .result) (o .wrapping-add-u64 .result) (c .less2 .result)
+    (x .less .ensures) (w .wrapping-sub-u64 .ensures) (left-lt w) (o .wrapping-add-u64 .ensures) (c .less2 .ensures)
 
 first-le : (a b q : ℕ) → a + b ≤ q → a ≤ q
 first-le a b q h = omega arith
@@ -25,8 +32,8 @@ first-le a b q h = omega arith
 second-le : (a b q : ℕ) → a + b ≤ q → b ≤ q - a
 second-le a b q h = omega arith
 
-result-lt : (c : tie.After-wrapping-sub-u64) → c .wrapping-sub-u64 .result < 2 ^ 64
-result-lt c = search needs
+opposite-le : (f : ℕ) → 1 - f ≤ 1
+opposite-le f = omega arith
 
 div-estimate : tie.Need-div-estimate
 div-estimate c = search needs
@@ -46,42 +53,44 @@ mul-taken c = record { fits = taken-lt (c .args .high) (c .args .low) (c .args .
 less-requires : tie.Need-less-requires
 less-requires c κs = search needs
 
-excess-requires : tie.Need-excess-requires
-excess-requires c κs = search needs
-
-less-requires-2 : tie.Need-less-requires-2
-less-requires-2 c κs = search needs
+wrapping-sub-u64-requires : tie.Need-wrapping-sub-u64-requires
+wrapping-sub-u64-requires c κs = search needs
 
 mul-wrapping-add-u64 : tie.Need-mul-wrapping-add-u64
-mul-wrapping-add-u64 c = let s = c .before .before .before in record { fits = flag-lt _ _ _ (s .args .d) (c .before .before .less .ensures) (s .fits .d .fits) }
+mul-wrapping-add-u64 c = let x = c .before in record { fits = times-lt _ (x .before .args .d) (flag-le _ _ _ (x .less .ensures)) (x .before .fits .d .fits) }
 
 wrapping-add-u64-requires : tie.Need-wrapping-add-u64-requires
 wrapping-add-u64-requires c κs = search needs
 
+less-requires-2 : tie.Need-less-requires-2
+less-requires-2 c κs = search needs
+
+sub-two : tie.Need-sub-two
+sub-two c = flag-le _ _ _ (c .less2 .ensures)
+
+sub-t13 : tie.Need-sub-t13
+sub-t13 c = first-le _ _ _ (both-le c)
+
+sub-t14 : tie.Need-sub-t14
+sub-t14 c = second-le _ _ _ (both-le c)
+
 mul-wrapping-add-u64-2 : tie.Need-mul-wrapping-add-u64-2
-mul-wrapping-add-u64-2 c = let s = c .before .before .before .before in record { fits = flag-lt _ _ _ (s .args .d) (c .before .less2 .ensures) (s .fits .d .fits) }
+mul-wrapping-add-u64-2 c = let s = c .before .before .before .before in record { fits = times-lt _ (s .args .d) (opposite-le _) (s .fits .d .fits) }
 
 wrapping-add-u64-requires-2 : tie.Need-wrapping-add-u64-requires-2
 wrapping-add-u64-requires-2 c κs = search needs
 
-sub-t14 : tie.Need-sub-t14
-sub-t14 c = first-le _ _ _ (both-le (c .before .before))
-
-sub-t13 : tie.Need-sub-t13
-sub-t13 c = second-le _ _ _ (both-le (c .before .before))
-
-wrapping-sub-u64-requires : tie.Need-wrapping-sub-u64-requires
-wrapping-sub-u64-requires c κs = search needs
-
 returns : tie.Need-returns
 returns c =
-    let a = c .before .before in
-    let k = a .before in
-    let x = k .before .before in
+    let k = c .before in
+    let o = k .before in
+    let w = o .before in
+    let x = w .before in
     let s = x .before in
     flags-done (s .args .high) (s .args .low) (s .args .d) (s .pre .0) (s .fits .d .fits) (s .pre .1) (s .pre .2)
-    (x .less .result) (k .less2 .result) (k .before .excess .result) (x .less .ensures) (k .before .excess .ensures) (k .less2 .ensures)
-    (c .wrapping-sub-u64 .result) _ _ (a .wrapping-add-u64 .ensures) (c .before .wrapping-add-u642 .ensures) (c .wrapping-sub-u64 .ensures) (result-lt c)
+    (x .less .result) (w .wrapping-sub-u64 .result) (o .wrapping-add-u64 .result) (k .less2 .result)
+    (x .less .ensures) (w .wrapping-sub-u64 .ensures) (left-lt w) (o .wrapping-add-u64 .ensures) (k .less2 .ensures)
+    (c .wrapping-add-u642 .result) (c .wrapping-add-u642 .ensures)
 
 pub digit-spec : {M : Type 1} → statement M
 digit-spec =
@@ -93,13 +102,13 @@ digit-spec =
     add-rest
     mul-taken
     less-requires
-    excess-requires
-    less-requires-2
+    wrapping-sub-u64-requires
     mul-wrapping-add-u64
     wrapping-add-u64-requires
+    less-requires-2
+    sub-two
+    sub-t13
+    sub-t14
     mul-wrapping-add-u64-2
     wrapping-add-u64-requires-2
-    sub-t14
-    sub-t13
-    wrapping-sub-u64-requires
     returns)
