@@ -5,7 +5,6 @@ use calculator::rate_number;
 use math::root::isqrt;
 use oracle::Ring;
 use pool::state::After;
-use pool::state::Opened;
 use pool::state::Pool;
 use receipt::amounts_receipt;
 use receipt::refusal_receipt;
@@ -25,6 +24,12 @@ ghost use Rattle.pool.specs.Opening.{openingFront, openingTests, openWith, zero
 
 // A supply below this is refused.
 const LEAST_SUPPLY: u64 = 101;
+
+// What an opening gives: a new pool with its receipt, and the ring's entries.
+pub struct Opened {
+    pub after: After,
+    pub entries: [u64; 500],
+}
 
 // An amount 0, 6; model 9; enabled not 0 or 1, 3; or 0.
 fn opening_front(amount0: u64, amount1: u64, model: u64, enabled: u64) -> u64

@@ -31,12 +31,6 @@ pub struct After {
     pub receipt: Receipt,
 }
 
-// What an opening gives: a new pool with its receipt, and the ring's entries.
-pub struct Opened {
-    pub after: After,
-    pub entries: [u64; 500],
-}
-
 impl Pool {
     // A refused call: the pool as it was, the number and zeros.
     pub(crate) fn refuse(self, number: u64) -> After

@@ -3,9 +3,9 @@ use crate::show;
 use calculator::Rates;
 use curve::constant_product::LpTokens;
 use curve::constant_product::TradingTokens;
+use opening::Opened;
 use opening::open;
 use pool::state::After;
-use pool::state::Opened;
 use pool::state::Pool;
 
 pub(crate) fn rates(trade: u64, creator: u64) -> Rates {
