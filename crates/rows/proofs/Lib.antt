@@ -1,4 +1,2 @@
-pub mod ColumnRead
-pub mod ColumnWritten
 pub mod RowWritten
 pub mod RowRead

@@ -7,11 +7,11 @@ use native.Mathlib.Omega.{arith}
 use borrow.Author.Tests.{eq-eqb, ne-eqb}
 use lib.Dec.{eqb}
 use lib.ListN.{length, take}
-use Rattle.rows.specs.declared.column.Reading.{Reading}
-use Rattle.rows.specs.declared.column.Reading.the-variants as C
+use Rattle.columns.specs.declared.Reading.{Reading}
+use Rattle.columns.specs.declared.Reading.the-variants as C
 use Rattle.rows.specs.declared.row.Row.{Row}
 use Rattle.rows.specs.declared.row.Row.the-variants as R
-use Rattle.rows.specs.Column.{readColumn}
+use Rattle.columns.specs.Column.{readColumn}
 use Rattle.rows.specs.Row.{with, columnAt, readRow}
 
 pub other-length : (bytes : List ℕ) → (length bytes ≡ 102 → ⊥) → readRow bytes ≡ R.Unreadable

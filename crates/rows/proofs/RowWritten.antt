@@ -7,9 +7,9 @@ use native.Mathlib.Omega.{arith}
 use borrow.Author.Tests.{le-leb, lt-leb}
 use lib.ListN.{length, getD, set, take, drop, length-append, length-drop, drop-of-length-le}
 use lib.Seq.{drop-cons, drop-drop, drop-append-add, take-at, set-at}
-use Rattle.rows.specs.Column.{column, hasRoom, withColumn}
+use Rattle.columns.specs.Column.{column, hasRoom, withColumn}
 use Rattle.rows.specs.Row.{newline, writeRow, withRow}
-use Rattle.rows.proofs.ColumnWritten.{in-row, column-length}
+use Rattle.columns.proofs.ColumnWritten.{in-row, column-length}
 
 -- a row that is written up to a place, and as it was from there on
 record Begun (row : List ℕ) (at : ℕ) (front now : List ℕ) : Type 0 where

@@ -4,11 +4,11 @@ use mathlib.Core.Bool.{cond, not}
 use mathlib.Core.List.{List, [], _∷_, _++_}
 use lib.Dec.{eqb}
 use lib.ListN.{length, take, drop}
-use Rattle.rows.specs.declared.column.Reading.{Reading}
-use Rattle.rows.specs.declared.column.Reading.the-variants as C
+use Rattle.columns.specs.declared.Reading.{Reading}
+use Rattle.columns.specs.declared.Reading.the-variants as C
 use Rattle.rows.specs.declared.row.Row.{Row}
 use Rattle.rows.specs.declared.row.Row.the-variants as R
-use Rattle.rows.specs.Column.{readColumn, column, hasRoom}
+use Rattle.columns.specs.Column.{readColumn, column, hasRoom}
 
 abbrev pub newline : ℕ
 newline = 10

@@ -1,3 +1,2 @@
 // Rows of the day sheet: numbers in columns, read and written.
-pub mod column;
 pub mod row;

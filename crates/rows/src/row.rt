@@ -1,11 +1,11 @@
 // Rows of the day sheet: a number in 2 columns and five in 20 each.
-use crate::column::Reading;
-use crate::column::read_column;
-use crate::column::write_column;
+use columns::Reading;
+use columns::read_column;
+use columns::write_column;
 ghost use mathlib.Core.Path.{_≡_};
 ghost use Prim.Native.Nat.{_<_};
 ghost use lib.ListN.{length};
-ghost use Rattle.rows.specs.Column.{hasRoom};
+ghost use Rattle.columns.specs.Column.{hasRoom};
 ghost use Rattle.rows.specs.Row.{columnAt, readRow, writeRow, withRow};
 
 const ROW_BYTES: usize = 103;

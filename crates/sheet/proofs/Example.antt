@@ -3,7 +3,7 @@
 use mathlib.Core.Path.{refl}
 use Rattle.refusal.specs.Tests.{first}
 use Rattle.history.proofs.Edges.{all}
-use Rattle.rows.specs.Column.{readDigits, inRange, readColumn, blanksBefore, column}
+use Rattle.columns.specs.Column.{readDigits, inRange, readColumn, blanksBefore, column}
 use Rattle.rows.specs.Row.{readRow, writeRow, rowsFrom}
 use Rattle.sheet.specs.Sheet.{emptySheet, keepRates, replaced, perform, yielded, run, daySheet}
 use Rattle.sheet.specs.Example.{bytesThen, rowsOf, input, output, Example}

@@ -1,0 +1,2 @@
+pub mod ColumnRead
+pub mod ColumnWritten
