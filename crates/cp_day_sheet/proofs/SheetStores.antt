@@ -8,13 +8,13 @@ use Rattle.refusal.specs.Tests.{first, outcome}
 use Rattle.refusal.proofs.Stops.{outcome-stop, outcome-go}
 use Rattle.calculator.specs.declared.Rates.{Rates}
 use Rattle.pool.specs.declared.state.Pool.{Pool}
-use Rattle.words.specs.Words.{at, poolWords, poolOf}
+use Rattle.words.specs.Words.{ratesOf, at, poolWords, poolOf}
 use Rattle.sheet.specs.Sheet.{sheetOf}
 use Rattle.stream.specs.declared.feed.Going.{Going}
 use Rattle.stream.specs.declared.feed.Fed.{Fed}
 use Rattle.stream.specs.declared.feed.Ended.{Ended}
 use Rattle.stream.specs.Pieces.{feed, leftBy, leftOf, finish, leftAtEnd, endOf}
-use Rattle.cp_swap.specs.Memory.{recordTests, ratesOf}
+use Rattle.cp_swap.specs.Memory.{recordTests}
 use Rattle.cp_day_sheet.specs.DaySheet.{SheetMemory, sheetMemory, sheetWords, storedPiece, fedOn, storedEnd, endedOn}
 
 abbrev pub goingWith : Rates → Pool → ℕ → Going

@@ -6,10 +6,10 @@ use lib.ListN.{length, take}
 use Rattle.refusal.specs.Tests.{outcome}
 use Rattle.calculator.specs.declared.Rates.{Rates}
 use Rattle.oracle.specs.Ring.{Entries}
-use Rattle.words.specs.Words.{at, poolWords, poolOf}
+use Rattle.words.specs.Words.{ratesOf, at, poolWords, poolOf}
 use Rattle.sheet.specs.Sheet.{Sheet}
 use Rattle.stream.specs.Pieces.{Left, feed, leftBy, LeftAtEnd, finish, leftAtEnd}
-use Rattle.cp_swap.specs.Memory.{recordTests, ratesOf}
+use Rattle.cp_swap.specs.Memory.{recordTests}
 
 -- the number that is returned, and what the caller's memory then holds
 pub record SheetMemory : Type 0 where

@@ -2,7 +2,6 @@
 // The caller lends the pool's record, the ring's entries, six numbers of the sheet (the rates for the next opening, and how many bytes
 // are held of a row that is begun) and those bytes; all zeros to begin with. The progress: bytes taken, bytes written.
 use calculator::Rates;
-use cp_swap::calls::rates_of;
 use cp_swap::calls::record_number;
 use refusal::ACCEPTED;
 use sheet::turn::Sheet;
@@ -11,9 +10,9 @@ use stream::feed::feed;
 use stream::feed::finish;
 use words::pool_of;
 use words::pool_words;
+use words::rates_of;
 ghost use mathlib.Core.Path.{_≡_};
-ghost use Rattle.words.specs.Words.{at, poolOf};
-ghost use Rattle.cp_swap.specs.Memory.{ratesOf};
+ghost use Rattle.words.specs.Words.{at, ratesOf, poolOf};
 ghost use Rattle.cp_day_sheet.specs.DaySheet.{sheetWords, sheetMemory, fedOn, endedOn};
 
 // The sheet that the caller's memory holds.

@@ -23,9 +23,9 @@ use Rattle.history.specs.declared.call.Call.{Call}
 use Rattle.history.specs.Run.{State, stateOf, next}
 use Rattle.history.proofs.Decisions.{numberOf}
 use Rattle.history.proofs.Refusals.{call-number-tells}
-use Rattle.words.specs.Words.{poolWords, poolOf, receiptWords}
+use Rattle.words.specs.Words.{ratesOf, poolWords, poolOf, receiptWords}
 use Rattle.cp_swap.specs.Steps.{Given, givenMemory, givenOn, swapCall}
-use Rattle.cp_swap.specs.Memory.{Memory, memory, untouched, stored, recordTests, calledOn, ratesOf, openedOn, netsMemory, storedNets, netsOn}
+use Rattle.cp_swap.specs.Memory.{Memory, memory, untouched, stored, recordTests, calledOn, openedOn, netsMemory, storedNets, netsOn}
 
 -- what a call gave, a with the ring's entries e′, is written or not by its number
 module _ (p e r : List ℕ) (a : After) (e′ : List ℕ) where

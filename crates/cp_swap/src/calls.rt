@@ -1,5 +1,4 @@
 // The steps of a call over plain memory: the record is tested and read, and what the call gives is written where it is accepted.
-use calculator::Rates;
 use oracle::store;
 use pool::state::After;
 use refusal::ACCEPTED;
@@ -9,7 +8,7 @@ use words::pool_words;
 use words::receipt_words;
 ghost use mathlib.Core.Path.{_≡_};
 ghost use Rattle.refusal.specs.Tests.{first};
-ghost use Rattle.cp_swap.specs.Memory.{memory, recordTests, calledOn, ratesOf};
+ghost use Rattle.cp_swap.specs.Memory.{memory, recordTests, calledOn};
 ghost use Rattle.cp_swap.specs.Steps.{givenMemory, givenOn, swapCall};
 
 // A flag of the record that is neither 0 nor 1, 3; or 0.
@@ -23,19 +22,6 @@ pub fn record_number(w: [u64; 21]) -> u64
         return INVALID_INPUT;
     }
     ACCEPTED
-}
-
-// Five numbers as the rates of an opening.
-pub fn rates_of(w: [u64; 5]) -> Rates
-    ensures { λ r. ⌜ r ≡ ratesOf w ⌝ }
-{
-    Rates {
-        trade: w[0],
-        protocol: w[1],
-        fund: w[2],
-        creator: w[3],
-        share: w[4],
-    }
 }
 
 // What a call gave is written where it was accepted; the number.

@@ -5,7 +5,6 @@
 pub mod calls;
 
 use crate::calls::give;
-use crate::calls::rates_of;
 use crate::calls::record_number;
 use crate::calls::swap_on;
 use accounting::Nets;
@@ -17,6 +16,7 @@ use pool::state::Pool;
 use refusal::ACCEPTED;
 use words::pool_of;
 use words::pool_words;
+use words::rates_of;
 use words::receipt_words;
 ghost use mathlib.Core.Path.{_≡_};
 ghost use Rattle.cp_swap.specs.Memory.{memory, calledOn, openedOn, netsMemory, netsOn};

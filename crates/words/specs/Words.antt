@@ -4,6 +4,7 @@ use mathlib.Core.Bool.{Bool, true, false, cond}
 use mathlib.Core.List.{List, [], _∷_}
 use lib.Dec.{eqb}
 use lib.ListN.{getD}
+use Rattle.calculator.specs.declared.Rates.{Rates}
 use Rattle.receipt.specs.declared.Receipt.{Receipt}
 use Rattle.pool.specs.declared.state.Pool.{Pool}
 
@@ -27,6 +28,10 @@ receiptWords r =
 
 abbrev pub at : List ℕ → ℕ → ℕ
 at w i = getD w i 0
+
+-- the rates of an opening
+abbrev pub ratesOf : List ℕ → Rates
+ratesOf w = record { trade = at w 0; protocol = at w 1; fund = at w 2; creator = at w 3; share = at w 4 }
 
 abbrev pub poolOf : List ℕ → Pool
 poolOf w = record {

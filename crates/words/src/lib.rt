@@ -7,7 +7,7 @@ use receipt::Receipt;
 ghost use mathlib.Core.Path.{_≡_};
 ghost use mathlib.Core.Bool.{cond};
 ghost use lib.ListN.{drop};
-ghost use Rattle.words.specs.Words.{poolWords, receiptWords, poolOf, beginsWith};
+ghost use Rattle.words.specs.Words.{poolWords, receiptWords, ratesOf, poolOf, beginsWith};
 
 // A flag as a number.
 fn word(flag: bool) -> u64
@@ -69,6 +69,19 @@ pub fn receipt_words(r: Receipt) -> [u64; 16]
         r.shared0,
         r.shared1,
     ]
+}
+
+// Five numbers as the rates of an opening.
+pub fn rates_of(w: [u64; 5]) -> Rates
+    ensures { λ r. ⌜ r ≡ ratesOf w ⌝ }
+{
+    Rates {
+        trade: w[0],
+        protocol: w[1],
+        fund: w[2],
+        creator: w[3],
+        share: w[4],
+    }
 }
 
 // The pool of 21 numbers. A flag is set where its number is 1.
