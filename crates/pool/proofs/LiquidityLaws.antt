@@ -9,9 +9,10 @@ use lib.Dec.{eqb}
 use borrow.Author.Tests.{ltb-true, ne-eqb}
 use Rattle.refusal.specs.Refusal.{ZeroTradingTokens, Panic}
 use Rattle.refusal.specs.Tests.{Tests, _then_, first, U64, past, outcome}
-use Rattle.refusal.proofs.Stops.{numbered, outcome-go, outcome-then, outcome-map, outcome-elim}
+use Rattle.refusal.proofs.Stops.{numbered, first-stage, outcome-stop, outcome-go, outcome-then, outcome-map, outcome-elim}
 use Rattle.curve.specs.declared.answer.Answer.the-variants as A
 use Rattle.curve.specs.declared.constant_product.RoundDirection.{RoundDirection}
+use Rattle.curve.specs.declared.constant_product.RoundDirection.the-variants.{Floor, Ceiling}
 use Rattle.curve.specs.declared.constant_product.TradingTokenResult.{TradingTokenResult}
 use Rattle.curve.specs.declared.constant_product.TradingTokenResult.the-variants as T
 use Rattle.curve.specs.declared.constant_product.TradingTokens.{TradingTokens}
@@ -22,8 +23,9 @@ use Rattle.accounting.specs.Counters.{counterTests, netsAnswer}
 use Rattle.pool.specs.declared.state.Pool.{Pool}
 use Rattle.pool.specs.declared.state.After.{After}
 use Rattle.pool.specs.State.{net0, net1, refused, decided}
-use Rattle.pool.specs.Liquidity.{amountTests}
-use Rattle.pool.specs.Stages.{isNone, someTokens, tokenAmounts}
+use Rattle.pool.specs.Liquidity.{amountTests, depositFront, depositTests, depositAt, deposit, withdrawFront, withdrawLast, withdrawTests, withdrawn, withdrawAt, withdraw}
+use Rattle.pool.specs.Change.{changeOf}
+use Rattle.pool.specs.Stages.{isNone, someTokens, tokenAmounts, rounding, changeFront, changeAt}
 
 -- ---- both tokens' parts, which are to be some
 -- an amount past u64 is not 0
@@ -176,3 +178,34 @@ past-front direction p lp front tests accepted last number m e z same told =
     ∙ regroup _ _ _ (refused p) accepted
     ∙ outcome-go front (refused p) _ number m e z
     ∙ outcome-then front _ (refused p) accepted
+
+-- ---- a deposit, or a withdrawal
+-- refused by its front
+pub front-refused :
+    (isDeposit : Bool) (p : Pool) (lp owned limit0 limit1 number : ℕ) {r : After} → r ≡ refused p number
+    → number ≡ first (changeFront isDeposit p lp owned) → (number ≡ 0 → ⊥) → r ≡ changeOf isDeposit p lp owned limit0 limit1
+unfolding depositTests depositAt deposit withdrawTests withdrawAt withdraw
+front-refused true p lp owned limit0 limit1 number r e n = r ∙ outcome-stop _ _ _ _ (first-stage _ _ _ e n) n
+front-refused false p lp owned limit0 limit1 number r e n = r ∙ outcome-stop _ _ _ _ (first-stage _ _ _ e n) n
+
+-- the last stage of a worth
+abbrev pub last : Bool → Pool → ℕ → ℕ → ℕ → Worth → After
+last isDeposit p lp limit0 limit1 w = changeAt isDeposit (w .net0) (w .net1) (w .amount0) (w .amount1) p lp limit0 limit1
+
+-- a withdrawal pays the amounts capped at the nets
+pub capped-last :
+    (p : Pool) (lp minimum0 minimum1 net0 net1 amount0 amount1 paid0 paid1 : ℕ) → paid0 ≡ min net0 amount0 → paid1 ≡ min net1 amount1
+    → decided (withdrawLast paid0 paid1 p lp minimum0 minimum1) p (withdrawn paid0 paid1 p lp)
+    ≡ changeAt false net0 net1 amount0 amount1 p lp minimum0 minimum1
+capped-last p lp minimum0 minimum1 net0 net1 amount0 amount1 paid0 paid1 e f = rw (e, f)
+
+-- what the worth comes to
+pub on-worth :
+    (isDeposit : Bool) (p : Pool) (lp owned limit0 limit1 number : ℕ) → number ≡ first (changeFront isDeposit p lp owned) → number ≡ 0
+    → {w : WorthAnswer} → w ≡ worthOf (rounding isDeposit) p lp
+    → onWorth p (last isDeposit p lp limit0 limit1) w ≡ changeOf isDeposit p lp owned limit0 limit1
+unfolding depositFront depositTests depositAt deposit withdrawFront withdrawTests withdrawAt withdraw
+on-worth true p lp owned limit0 limit1 number e z told =
+    past-front Ceiling p lp (depositFront p lp) _ _ (last true p lp limit0 limit1) number refl e z refl told
+on-worth false p lp owned limit0 limit1 number e z told =
+    past-front Floor p lp (withdrawFront p lp owned) _ _ (last false p lp limit0 limit1) number refl e z refl told

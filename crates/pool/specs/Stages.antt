@@ -1,5 +1,5 @@
 -- What the private steps of this crate answer. No public definition rests on these.
-use Prim.Native.Nat.{ℕ, _+_, _≤_, _<_}
+use Prim.Native.Nat.{ℕ, _+_, _≤_, _<_, min}
 use mathlib.Core.Bool.{Bool, true, false, cond}
 use mathlib.Core.List.{[], _∷_}
 use lib.Dec.{ltb, eqb}
@@ -15,6 +15,7 @@ use Rattle.curve.specs.declared.answer.Answer.the-variants.{Amount, Refused}
 use Rattle.curve.specs.declared.constant_product.TradingTokenResult.{TradingTokenResult}
 use Rattle.curve.specs.declared.constant_product.TradingTokenResult.the-variants as T
 use Rattle.curve.specs.declared.constant_product.RoundDirection.{RoundDirection}
+use Rattle.curve.specs.declared.constant_product.RoundDirection.the-variants.{Floor, Ceiling}
 use Rattle.curve.specs.ConstantProduct.{lpAmount, tokens}
 use Rattle.curve.specs.Stages.{tokensOf}
 use Rattle.calculator.specs.declared.SwapResult.{SwapResult}
@@ -27,7 +28,7 @@ use Rattle.pool.specs.declared.state.Pool.{Pool}
 use Rattle.pool.specs.declared.swap.Decision.{Decision}
 use Rattle.pool.specs.declared.state.After.{After}
 use Rattle.pool.specs.State.{net0, net1, creatorRate, refused, decided, Done}
-use Rattle.pool.specs.Liquidity.{amountTests}
+use Rattle.pool.specs.Liquidity.{amountTests, depositFront, depositLast, deposited, withdrawFront, withdrawLast, withdrawn}
 use Rattle.pool.specs.Settlement.{paymentTests, settled}
 use Rattle.pool.specs.Swap.{netIn, netOut, netTests, payTests, paidPool, bookTests, swapReceipt, swapped, decidedSwap}
 use Rattle.pool.specs.SwapBaseInput.{inputFront, minimumTests}
@@ -124,6 +125,27 @@ tokenAmounts direction lp supply net0 net1 =
     outcome (amountTests (lpAmount direction lp supply net0) (lpAmount direction lp supply net1) supply)
     T.Refused
     (T.Amounts (tokens (lpAmount direction lp supply net0)) (tokens (lpAmount direction lp supply net1)))
+
+-- ---- a deposit, or a withdrawal
+-- the amounts are rounded up for deposits, down for withdrawals
+abbrev pub rounding : Bool → RoundDirection
+rounding true = Ceiling
+rounding false = Floor
+
+-- the tests before the nets'
+abbrev pub changeFront : Bool → Pool → ℕ → ℕ → Tests
+changeFront true p lp owned = depositFront p lp
+changeFront false p lp owned = withdrawFront p lp owned
+
+-- the nets and the amounts are known: the last tests, and what the call gives
+abbrev pub changeAt : Bool → ℕ → ℕ → ℕ → ℕ → Pool → ℕ → ℕ → ℕ → After
+changeAt true net0 net1 amount0 amount1 p lp maximum0 maximum1 =
+    decided (depositLast amount0 amount1 p lp maximum0 maximum1) p (deposited amount0 amount1 p lp)
+changeAt false net0 net1 amount0 amount1 p lp minimum0 minimum1 =
+    decided
+    (withdrawLast (min net0 amount0) (min net1 amount1) p lp minimum0 minimum1)
+    p
+    (withdrawn (min net0 amount0) (min net1 amount1) p lp)
 
 -- the nets that have passed a swap's tests up to the model
 unfoldable pub swapNets : Pool → Nets

@@ -1,11 +1,7 @@
 // Deposit: tokens of both kinds for new LP tokens.
-use crate::liquidity::token_amounts;
 use crate::state::After;
 use crate::state::Pool;
-use accounting::Nets;
 use curve::constant_product::LpTokens;
-use curve::constant_product::RoundDirection;
-use curve::constant_product::TradingTokenResult;
 use curve::constant_product::TradingTokens;
 use receipt::amounts_receipt;
 use refusal::ACCEPTED;
@@ -20,7 +16,7 @@ ghost use Rattle.pool.specs.State.{decided};
 ghost use Rattle.pool.specs.Liquidity.{depositFront, depositLast, deposited, deposit};
 
 // lp 0, 10; bit 0 set, 1; or 0.
-fn deposit_front(pool: Pool, lp: u64) -> u64
+pub(crate) fn deposit_front(pool: Pool, lp: u64) -> u64
     ensures { λ r. ⌜ r ≡ first (depositFront pool lp) ⌝ }
 {
     let status = pool.status;
@@ -67,7 +63,14 @@ fn deposit_last(
 
 impl Pool {
     // The amounts are known: the booking, or its refusal.
-    fn deposit_at(self, lp: u64, amount0: u64, amount1: u64, maximum0: u64, maximum1: u64) -> After
+    pub(crate) fn deposit_at(
+        self,
+        lp: u64,
+        amount0: u64,
+        amount1: u64,
+        maximum0: u64,
+        maximum1: u64,
+    ) -> After
         ensures { λ r. ⌜ r ≡ decided (depositLast amount0 amount1 self lp maximum0 maximum1) self (deposited amount0 amount1 self lp) ⌝ }
     {
         let number = deposit_last(self, lp, amount0, amount1, maximum0, maximum1);
@@ -92,29 +95,6 @@ impl Pool {
     pub fn deposit(self, lp: LpTokens, maximum0: TradingTokens, maximum1: TradingTokens) -> After
         ensures { λ r. ⌜ r ≡ deposit self (lp .0) (maximum0 .0) (maximum1 .0) ⌝ }
     {
-        let number = deposit_front(self, lp.0);
-        if number != ACCEPTED {
-            return self.refuse(number);
-        }
-        let supply = LpTokens(self.supply);
-        match self.nets() {
-            Nets::Refused(number) => self.refuse(number),
-            Nets::Of(net0, net1) => match token_amounts(
-                lp,
-                supply,
-                TradingTokens(net0),
-                TradingTokens(net1),
-                RoundDirection::Ceiling,
-            ) {
-                TradingTokenResult::Refused(number) => self.refuse(number),
-                TradingTokenResult::Amounts(amount0, amount1) => self.deposit_at(
-                    lp.0,
-                    amount0.0,
-                    amount1.0,
-                    maximum0.0,
-                    maximum1.0,
-                ),
-            },
-        }
+        self.change(true, lp, LpTokens(0), maximum0, maximum1)
     }
 }

@@ -1,4 +1,5 @@
 // The pool: its record and the calls.
+pub mod change;
 pub mod creator_fee_share;
 pub mod decide;
 pub mod deposit;

@@ -1,11 +1,7 @@
 // Withdrawal: LP tokens for tokens of both kinds.
-use crate::liquidity::token_amounts;
 use crate::state::After;
 use crate::state::Pool;
-use accounting::Nets;
 use curve::constant_product::LpTokens;
-use curve::constant_product::RoundDirection;
-use curve::constant_product::TradingTokenResult;
 use curve::constant_product::TradingTokens;
 use receipt::amounts_receipt;
 use refusal::ACCEPTED;
@@ -20,7 +16,7 @@ ghost use Rattle.pool.specs.State.{decided};
 ghost use Rattle.pool.specs.Liquidity.{withdrawFront, withdrawLast, withdrawn, withdraw};
 
 // lp 0 or above the owner's, 10; bit 1, 1; or 0.
-fn withdraw_front(pool: Pool, lp: u64, owned: u64) -> u64
+pub(crate) fn withdraw_front(pool: Pool, lp: u64, owned: u64) -> u64
     ensures { λ r. ⌜ r ≡ first (withdrawFront pool lp owned) ⌝ }
 {
     let status = pool.status;
@@ -54,7 +50,7 @@ fn withdraw_last(pool: Pool, lp: u64, paid0: u64, paid1: u64, minimum0: u64, min
 }
 
 // Amounts are capped at the nets.
-fn capped(net: u64, amount: u64) -> u64
+pub(crate) fn capped(net: u64, amount: u64) -> u64
     ensures { λ r. ⌜ r ≡ min net amount ⌝ }
 {
     if net <= amount { net } else { amount }
@@ -62,7 +58,14 @@ fn capped(net: u64, amount: u64) -> u64
 
 impl Pool {
     // The amounts are known: the booking, or its refusal.
-    fn withdraw_at(self, lp: u64, paid0: u64, paid1: u64, minimum0: u64, minimum1: u64) -> After
+    pub(crate) fn withdraw_at(
+        self,
+        lp: u64,
+        paid0: u64,
+        paid1: u64,
+        minimum0: u64,
+        minimum1: u64,
+    ) -> After
         requires { ⌜ (paid0 ≤ self .vault0) × (paid1 ≤ self .vault1) ⌝ }
         ensures { λ r. ⌜ r ≡ decided (withdrawLast paid0 paid1 self lp minimum0 minimum1) self (withdrawn paid0 paid1 self lp) ⌝ }
     {
@@ -94,27 +97,6 @@ impl Pool {
     ) -> After
         ensures { λ r. ⌜ r ≡ withdraw self (lp .0) (owned .0) (minimum0 .0) (minimum1 .0) ⌝ }
     {
-        let number = withdraw_front(self, lp.0, owned.0);
-        if number != ACCEPTED {
-            return self.refuse(number);
-        }
-        let supply = LpTokens(self.supply);
-        match self.nets() {
-            Nets::Refused(number) => self.refuse(number),
-            Nets::Of(net0, net1) => match token_amounts(
-                lp,
-                supply,
-                TradingTokens(net0),
-                TradingTokens(net1),
-                RoundDirection::Floor,
-            ) {
-                TradingTokenResult::Refused(number) => self.refuse(number),
-                TradingTokenResult::Amounts(amount0, amount1) => {
-                    let paid0 = capped(net0, amount0.0);
-                    let paid1 = capped(net1, amount1.0);
-                    self.withdraw_at(lp.0, paid0, paid1, minimum0.0, minimum1.0)
-                }
-            },
-        }
+        self.change(false, lp, owned, minimum0, minimum1)
     }
 }

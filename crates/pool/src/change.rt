@@ -1,0 +1,106 @@
+// Deposits and withdrawals on one path: an LP amount's worth in both tokens is paid in, or paid out.
+use crate::deposit::deposit_front;
+use crate::liquidity::token_amounts;
+use crate::state::After;
+use crate::state::Pool;
+use crate::withdraw::capped;
+use crate::withdraw::withdraw_front;
+use accounting::Nets;
+use curve::constant_product::LpTokens;
+use curve::constant_product::RoundDirection;
+use curve::constant_product::TradingTokenResult;
+use curve::constant_product::TradingTokens;
+use refusal::ACCEPTED;
+ghost use mathlib.Core.Path.{_≡_};
+ghost use Prim.Native.Nat.{_≤_};
+ghost use Rattle.refusal.specs.Tests.{first};
+ghost use Rattle.pool.specs.Change.{changeOf};
+ghost use Rattle.pool.specs.Stages.{rounding as roundingOf, changeFront, changeAt};
+
+// Up for what is paid in, down for what is paid out.
+fn rounding(is_deposit: bool) -> RoundDirection
+    ensures { λ r. ⌜ r ≡ roundingOf «is_deposit» ⌝ }
+{
+    if is_deposit {
+        RoundDirection::Ceiling
+    } else {
+        RoundDirection::Floor
+    }
+}
+
+// The tests before the nets', each call's own.
+fn front_number(pool: Pool, is_deposit: bool, lp: u64, owned: u64) -> u64
+    ensures { λ r. ⌜ r ≡ first (changeFront «is_deposit» pool lp owned) ⌝ }
+{
+    if is_deposit {
+        deposit_front(pool, lp)
+    } else {
+        withdraw_front(pool, lp, owned)
+    }
+}
+
+impl Pool {
+    // The nets and the amounts are known: each call's own tests and booking. What is paid out is capped at the nets.
+    fn change_at(
+        self,
+        is_deposit: bool,
+        lp: u64,
+        net0: u64,
+        net1: u64,
+        amount0: u64,
+        amount1: u64,
+        limit0: u64,
+        limit1: u64,
+    ) -> After
+        requires { ⌜ (net0 ≤ self .vault0) × (net1 ≤ self .vault1) ⌝ }
+        ensures { λ r. ⌜ r ≡ changeAt «is_deposit» net0 net1 amount0 amount1 self lp limit0 limit1 ⌝ }
+    {
+        if is_deposit {
+            return self.deposit_at(lp, amount0, amount1, limit0, limit1);
+        }
+        let paid0 = capped(net0, amount0);
+        let paid1 = capped(net1, amount1);
+        self.withdraw_at(lp, paid0, paid1, limit0, limit1)
+    }
+
+    // A deposit with two maximums, or a withdrawal with the owner's LP and two minimums.
+    pub fn change(
+        self,
+        is_deposit: bool,
+        lp: LpTokens,
+        owned: LpTokens,
+        limit0: TradingTokens,
+        limit1: TradingTokens,
+    ) -> After
+        ensures { λ r. ⌜ r ≡ changeOf «is_deposit» self (lp .0) (owned .0) (limit0 .0) (limit1 .0) ⌝ }
+    {
+        let number = front_number(self, is_deposit, lp.0, owned.0);
+        if number != ACCEPTED {
+            return self.refuse(number);
+        }
+        let supply = LpTokens(self.supply);
+        let direction = rounding(is_deposit);
+        match self.nets() {
+            Nets::Refused(number) => self.refuse(number),
+            Nets::Of(net0, net1) => match token_amounts(
+                lp,
+                supply,
+                TradingTokens(net0),
+                TradingTokens(net1),
+                direction,
+            ) {
+                TradingTokenResult::Refused(number) => self.refuse(number),
+                TradingTokenResult::Amounts(amount0, amount1) => self.change_at(
+                    is_deposit,
+                    lp.0,
+                    net0,
+                    net1,
+                    amount0.0,
+                    amount1.0,
+                    limit0.0,
+                    limit1.0,
+                ),
+            },
+        }
+    }
+}
