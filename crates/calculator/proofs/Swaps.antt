@@ -24,7 +24,7 @@ use Rattle.calculator.specs.declared.Rates.{Rates}
 use Rattle.calculator.specs.declared.SwapResult.{SwapResult}
 use Rattle.calculator.specs.declared.SwapAnswer.{SwapAnswer}
 use Rattle.calculator.specs.declared.SwapAnswer.the-variants.{Swapped, Refused}
-use Rattle.curve.specs.Fees.{Million, feeUp, split, preFee}
+use Rattle.fees.specs.Fees.{Million, feeUp, split, preFee}
 use Rattle.curve.specs.ConstantProduct.{swapOut, swapIn}
 use Rattle.calculator.specs.Calculator.{rateLimits, noSplit, charged, swapBaseInput, curveOutput, curveInput, withFees, quoteTests, swapBaseOutput}
 use Rattle.calculator.specs.Stages.{Limited, chargedSplit, inputStage, outputStage}

@@ -10,7 +10,7 @@ use Rattle.calculator.specs.declared.Rates.{Rates}
 use Rattle.calculator.specs.declared.SwapResult.{SwapResult}
 use Rattle.calculator.specs.declared.SwapAnswer.{SwapAnswer}
 use Rattle.calculator.specs.declared.SwapAnswer.the-variants.{Swapped, Refused}
-use Rattle.curve.specs.Fees.{Million, feeUp, feeDown, split, preFee}
+use Rattle.fees.specs.Fees.{Million, feeUp, feeDown, split, preFee}
 use Rattle.curve.specs.ConstantProduct.{swapOut, swapIn}
 
 -- trade + creator above 999,999, protocol + fund above 1,000,000, summed without wrap, 3

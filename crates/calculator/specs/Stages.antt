@@ -4,7 +4,7 @@ use mathlib.Core.Bool.{Bool}
 use mathlib.Core.List.{[], _∷_}
 use Rattle.refusal.specs.Refusal.{ZeroTradingTokens}
 use Rattle.refusal.specs.Tests.{outcome}
-use Rattle.curve.specs.Fees.{Million, split}
+use Rattle.fees.specs.Fees.{Million, split}
 use Rattle.calculator.specs.declared.Rates.{Rates}
 use Rattle.calculator.specs.declared.SwapResult.{SwapResult}
 use Rattle.calculator.specs.declared.SwapAnswer.{SwapAnswer}

@@ -1,23 +1,23 @@
 // The rates' limits and the swaps with fees (document 01, 'constant_product.rs, then calculator.rs').
 // `net_in` is the net of the token that goes in, `net_out` of the other; `creator_rate` is the rate that counts, 0 unless the pool enables it.
-use curve::fees::FEE_RATE_DENOMINATOR_VALUE;
+use fees::FEE_RATE_DENOMINATOR_VALUE;
 use math::ratio::Quotient;
 use math::ratio::div_by_sum;
 use math::ratio::mul_div_ceil;
-use math::share::scale_ceil;
-use math::share::share_ceil;
-use math::share::share_floor;
 use refusal::ACCEPTED;
 use refusal::INVALID_INPUT;
 use refusal::PANIC;
 use refusal::ZERO_TRADING_TOKENS;
+use share::scale_ceil;
+use share::share_ceil;
+use share::share_floor;
 use wide::widening_mul;
 ghost use mathlib.Core.Bool.{true, false};
 ghost use mathlib.Core.Path.{_≡_};
 ghost use Prim.Native.Nat.{_+_, _<_, _≤_};
 ghost use Rattle.math.specs.Ratio.{fit};
 ghost use Rattle.refusal.specs.Tests.{first};
-ghost use Rattle.curve.specs.Fees.{Million, preFee};
+ghost use Rattle.fees.specs.Fees.{Million, preFee};
 ghost use Rattle.curve.specs.ConstantProduct.{swapOut};
 ghost use Rattle.calculator.specs.Calculator.{rateLimits, rateTests, onInput, charged, inputAnswer, outputAnswer};
 ghost use Rattle.calculator.specs.Stages.{Limited, chargedSplit, inputStage, outputStage};

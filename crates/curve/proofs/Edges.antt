@@ -1,40 +1,25 @@
--- Document 01's edges that speak of these functions alone, by computation.
+-- Document 01's edges that speak of the curve alone, by computation.
 -- Assumes nothing.
 use mathlib.Core.Path.{_≡_, refl}
 use Rattle.refusal.specs.Tests.{outcome}
-use Rattle.curve.specs.declared.answer.Answer.the-variants.{Amount, Refused}
+use Rattle.answer.specs.declared.Answer.the-variants.{Amount, Refused}
 use Rattle.curve.specs.declared.constant_product.RoundDirection.the-variants.{Floor, Ceiling}
-use Rattle.curve.specs.Fees.{feeUp, preFee, ceilFee, tradingFee, calculatePreFeeAmount, splitCreatorFee, split}
 use Rattle.curve.specs.ConstantProduct.{swapOut, swapIn, lpAmount, swapBaseInputWithoutFees, swapBaseOutputWithoutFees, lpPart}
-
--- fee on 2 is 1
-pub fee-on-two : tradingFee 2 2500 ≡ Amount 1
-unfolding ceilFee feeUp outcome
-fee-on-two = refl
 
 -- 10,000 in leaves 9,975 after fees, which the curve answers with 39,505
 pub curve-by-input : swapBaseInputWithoutFees 9975 1000000 4000000 ≡ Amount 39505
 unfolding swapBaseInputWithoutFees swapOut outcome
 curve-by-input = refl
 
--- 39,505 out asks 9,975, and 10,000 with the fee
+-- 39,505 out asks 9,975
 pub curve-by-output : swapBaseOutputWithoutFees 39505 1000000 4000000 ≡ Amount 9975
 unfolding swapBaseOutputWithoutFees swapIn outcome
 curve-by-output = refl
-
-pub before-the-fee : calculatePreFeeAmount 9975 2500 ≡ Amount 10000
-unfolding calculatePreFeeAmount preFee outcome
-before-the-fee = refl
 
 -- all of the net is 11
 pub all-of-it : swapBaseOutputWithoutFees 4000000 1000000 4000000 ≡ Refused 11
 unfolding swapBaseOutputWithoutFees swapIn outcome
 all-of-it = refl
-
--- a rate sum of 0 has no split
-pub no-split : splitCreatorFee 25 0 0 ≡ Refused 4
-unfolding splitCreatorFee split outcome
-no-split = refl
 
 -- LP 1 of 2,000,000 is worth no token 0, rounded up too; 3 asks 2, and gives 1
 pub worth-nothing : lpPart Ceiling 1 2000000 1000000 ≡ Amount 0

@@ -1,4 +1,2 @@
-pub mod Answers
-pub mod Shares
 pub mod LpTokens
 pub mod Edges

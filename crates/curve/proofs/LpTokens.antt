@@ -21,8 +21,8 @@ use Rattle.math.proofs.Answers.{parts-none, parts-fits, parts-past, halves-fit,
 use Rattle.refusal.specs.Refusal.{ZeroTradingTokens, Panic}
 use Rattle.refusal.specs.Tests.{U64, outcome}
 use Rattle.refusal.proofs.Stops.{turns, outcome-at, outcome-all, outcome-past}
-use Rattle.curve.specs.declared.answer.Answer.{Answer}
-use Rattle.curve.specs.declared.answer.Answer.the-variants.{Amount, Refused}
+use Rattle.answer.specs.declared.Answer.{Answer}
+use Rattle.answer.specs.declared.Answer.the-variants.{Amount, Refused}
 use Rattle.curve.specs.declared.constant_product.RoundDirection.{RoundDirection}
 use Rattle.curve.specs.declared.constant_product.RoundDirection.the-variants.{Floor, Ceiling}
 use Rattle.curve.specs.declared.constant_product.TradingTokenResult.{TradingTokenResult}

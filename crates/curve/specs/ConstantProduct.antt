@@ -7,8 +7,8 @@ use lib.Dec.{leb, eqb}
 use Rattle.wide.specs.Division.{ceilDiv}
 use Rattle.refusal.specs.Refusal.{ZeroTradingTokens, Panic}
 use Rattle.refusal.specs.Tests.{outcome, past}
-use Rattle.curve.specs.declared.answer.Answer.{Answer}
-use Rattle.curve.specs.declared.answer.Answer.the-variants.{Amount, Refused}
+use Rattle.answer.specs.declared.Answer.{Answer}
+use Rattle.answer.specs.declared.Answer.the-variants.{Amount, Refused}
 use Rattle.curve.specs.declared.constant_product.RoundDirection.{RoundDirection}
 use Rattle.curve.specs.declared.constant_product.RoundDirection.the-variants.{Floor, Ceiling}
 use Rattle.curve.specs.declared.constant_product.TradingTokens.{TradingTokens}

@@ -1,4 +1,2 @@
-pub mod Answer
-pub mod Fees
 pub mod ConstantProduct
 pub mod Stages

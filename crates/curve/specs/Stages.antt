@@ -5,8 +5,8 @@ use mathlib.Core.List.{[], _∷_}
 use lib.Dec.{eqb}
 use Rattle.refusal.specs.Refusal.{Panic}
 use Rattle.refusal.specs.Tests.{outcome, past}
-use Rattle.curve.specs.declared.answer.Answer.{Answer}
-use Rattle.curve.specs.declared.answer.Answer.the-variants.{Amount, Refused}
+use Rattle.answer.specs.declared.Answer.{Answer}
+use Rattle.answer.specs.declared.Answer.the-variants.{Amount, Refused}
 use Rattle.curve.specs.declared.constant_product.RoundDirection.{RoundDirection}
 use Rattle.curve.specs.declared.constant_product.RoundDirection.the-variants.{Floor, Ceiling}
 use Rattle.curve.specs.declared.constant_product.TradingTokenResult.{TradingTokenResult}

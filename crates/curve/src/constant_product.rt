@@ -1,6 +1,6 @@
 // The constant product curve: x × y does not fall. x is the net of the token that goes in, y of the one that comes out.
-use crate::answer::Answer;
-use crate::answer::from_quotient;
+use answer::Answer;
+use answer::from_quotient;
 use math::ratio::mul_div_ceil;
 use math::ratio::mul_div_sum;
 use refusal::PANIC;

@@ -1,4 +1,2 @@
-// Fees and the curve: what a swap costs and gives, and what LP tokens are worth.
-pub mod answer;
+// The curve, `curve/` of the original without its fees (crate `fees`): what a swap gives and asks, and what LP tokens are worth.
 pub mod constant_product;
-pub mod fees;

@@ -4,12 +4,12 @@ use Prim.Native.Nat.{ℕ, _*_, min}
 use mathlib.Core.Path.{_≡_, refl}
 use mathlib.Core.Bool.{Bool, true}
 use lib.Dec.{eqb}
-use Rattle.math.specs.Root.{root}
+use Rattle.root.specs.Root.{root}
 use Rattle.refusal.specs.Tests.{Tests, _then_, outcome}
 use Rattle.refusal.proofs.Stops.{numbered, outcome-map}
 use Rattle.calculator.specs.declared.Rates.{Rates}
 use Rattle.curve.specs.declared.constant_product.RoundDirection.the-variants.{Floor, Ceiling}
-use Rattle.curve.specs.Fees.{feeDown}
+use Rattle.fees.specs.Fees.{feeDown}
 use Rattle.curve.specs.ConstantProduct.{lpAmount}
 use Rattle.calculator.specs.declared.SwapResult.{SwapResult}
 use Rattle.calculator.specs.Calculator.{rateLimits, rateTests, quoteTests, onInput, swapBaseInput as inputWithFees, swapBaseOutput as outputWithFees}

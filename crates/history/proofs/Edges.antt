@@ -1,9 +1,9 @@
 -- Every row of the table of edges holds, by computation.
 -- Assumes nothing.
 use mathlib.Core.Path.{_≡_, refl}
-use Rattle.math.specs.Root.{rootAt, root}
+use Rattle.root.specs.Root.{rootAt, root}
 use Rattle.refusal.specs.Tests.{_then_, outcome}
-use Rattle.curve.specs.Fees.{feeUp, feeDown, split, preFee}
+use Rattle.fees.specs.Fees.{feeUp, feeDown, split, preFee}
 use Rattle.curve.specs.ConstantProduct.{swapOut, swapIn, lpAmount}
 use Rattle.calculator.specs.Calculator.{rateLimits, rateTests, onInput, swapBaseInput as inputWithFees, curveOutput, curveInput, charged, withFees, quoteTests, swapBaseOutput as outputWithFees}
 use Rattle.accounting.specs.Counters.{counterTests}

@@ -9,7 +9,7 @@ use native.Mathlib.Nat.{sub-zero}
 use lib.Dec.{eqb}
 use lib.ListN.{take, drop, take-append-drop}
 use lib.Seq.{take-take}
-use Rattle.math.proofs.WholeRoot.{root-square}
+use Rattle.root.proofs.WholeRoot.{root-square}
 use Rattle.refusal.proofs.Stops.{Passed, outcome-elim}
 use Rattle.calculator.specs.declared.Rates.{Rates}
 use Rattle.oracle.specs.Ring.{entryAt}

@@ -13,7 +13,7 @@ use Rattle.math.proofs.Rounding.{floor-le, ceil-ge, share-floor-le}
 use Rattle.refusal.specs.Tests.{_then_}
 use Rattle.refusal.proofs.Stops.{Passed}
 use Rattle.curve.specs.declared.constant_product.RoundDirection.the-variants.{Floor, Ceiling}
-use Rattle.curve.specs.Fees.{Million, feeDown}
+use Rattle.fees.specs.Fees.{Million, feeDown}
 use Rattle.curve.specs.ConstantProduct.{lpAmount}
 use Rattle.accounting.specs.Counters.{counterTests}
 use Rattle.receipt.specs.Receipt.{amounts}

@@ -10,7 +10,7 @@ use borrow.Author.Tests.{ltb-false, leb-false}
 use lib.Dec.{ltb, eqb}
 use Rattle.refusal.specs.Tests.{_then_}
 use Rattle.refusal.proofs.Stops.{Passed}
-use Rattle.curve.specs.Fees.{Million}
+use Rattle.fees.specs.Fees.{Million}
 use Rattle.calculator.specs.declared.SwapResult.{SwapResult}
 use Rattle.accounting.specs.Counters.{counterTests}
 use Rattle.accounting.specs.Booking.{booked}

@@ -3,7 +3,7 @@ use math::ratio::Quotient;
 use math::ratio::mul_div_ceil;
 use math::ratio::mul_div_floor;
 use math::ratio::mul_div_sum;
-use math::root::isqrt;
+use root::isqrt;
 use wide::U128;
 use wide::divide::price_x32;
 use wide::widening_mul;
@@ -11,7 +11,7 @@ use wide::wrapping_add;
 ghost use mathlib.Core.Path.{_≡_};
 ghost use Prim.Native.Nat.{_+_, _*_, _/_, _%_, _^_};
 ghost use Rattle.math.specs.Ratio.{floorOf, ceilOf};
-ghost use Rattle.math.specs.Root.{root};
+ghost use Rattle.root.specs.Root.{root};
 ghost use Rattle.leaves.specs.Leaves.{orZero, priceLow};
 
 fn or_zero(quotient: Quotient) -> u64

@@ -1,2 +1,1 @@
 pub mod Ratio
-pub mod Root

@@ -1,4 +1,3 @@
-// The arithmetic of the pool, the Rust's utils/math.rs: quotients rounded down and up, shares at a rate, whole roots.
+// The arithmetic of the pool, the Rust's utils/math.rs: quotients rounded down and up. Its whole root is crate `root`; shares at a rate, which
+// take no long division, are crate `share`.
 pub mod ratio;
-pub mod root;
-pub mod share;

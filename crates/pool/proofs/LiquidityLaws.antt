@@ -10,7 +10,7 @@ use borrow.Author.Tests.{ltb-true, ne-eqb}
 use Rattle.refusal.specs.Refusal.{ZeroTradingTokens, Panic}
 use Rattle.refusal.specs.Tests.{Tests, _then_, first, U64, past, outcome}
 use Rattle.refusal.proofs.Stops.{numbered, first-stage, outcome-stop, outcome-go, outcome-then, outcome-map, outcome-elim}
-use Rattle.curve.specs.declared.answer.Answer.the-variants as A
+use Rattle.answer.specs.declared.Answer.the-variants as A
 use Rattle.curve.specs.declared.constant_product.RoundDirection.{RoundDirection}
 use Rattle.curve.specs.declared.constant_product.RoundDirection.the-variants.{Floor, Ceiling}
 use Rattle.curve.specs.declared.constant_product.TradingTokenResult.{TradingTokenResult}

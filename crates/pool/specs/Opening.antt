@@ -4,7 +4,7 @@ use mathlib.Core.Bool.{Bool, false}
 use mathlib.Core.List.{[], _∷_}
 use lib.Dec.{ltb, eqb}
 use lib.ListN.{replicate}
-use Rattle.math.specs.Root.{root}
+use Rattle.root.specs.Root.{root}
 use Rattle.refusal.specs.Refusal.{EmptySupply, InvalidFeeModel, InvalidInput, InitLpAmountTooLess}
 use Rattle.refusal.specs.Tests.{Tests, _then_}
 use Rattle.calculator.specs.declared.Rates.{Rates}

@@ -5,13 +5,13 @@ use mathlib.Core.List.{[], _∷_}
 use lib.Dec.{ltb, eqb}
 use Rattle.refusal.specs.Refusal.{ZeroTradingTokens, ExceededSlippage}
 use Rattle.refusal.specs.Tests.{Tests, _then_, outcome}
-use Rattle.curve.specs.Fees.{Million}
+use Rattle.fees.specs.Fees.{Million}
 use Rattle.calculator.specs.Calculator.{onInput, noSplit, quoteTests, inputAnswer, outputAnswer, swapBaseInput as inputWithFees, swapBaseOutput as outputWithFees}
 use Rattle.calculator.specs.declared.Rates.{Rates}
 use Rattle.calculator.specs.declared.SwapAnswer.{SwapAnswer}
 use Rattle.accounting.specs.Counters.{counters0, counters1}
-use Rattle.curve.specs.declared.answer.Answer.{Answer}
-use Rattle.curve.specs.declared.answer.Answer.the-variants.{Amount, Refused}
+use Rattle.answer.specs.declared.Answer.{Answer}
+use Rattle.answer.specs.declared.Answer.the-variants.{Amount, Refused}
 use Rattle.curve.specs.declared.constant_product.TradingTokenResult.{TradingTokenResult}
 use Rattle.curve.specs.declared.constant_product.TradingTokenResult.the-variants as T
 use Rattle.curve.specs.declared.constant_product.RoundDirection.{RoundDirection}

@@ -2,14 +2,14 @@
 use crate::state::After;
 use crate::state::Pool;
 use accounting::FeeCounters;
-use curve::fees::FEE_RATE_DENOMINATOR_VALUE;
-use math::share::share_floor;
+use fees::FEE_RATE_DENOMINATOR_VALUE;
 use receipt::Receipt;
 use receipt::refusal_receipt;
 use refusal::ACCEPTED;
 use refusal::INSUFFICIENT_VAULT;
 use refusal::INVALID_INPUT;
 use refusal::MATH_OVERFLOW;
+use share::share_floor;
 ghost use mathlib.Core.Path.{_≡_};
 ghost use Prim.Native.Nat.{_≤_};
 ghost use Rattle.refusal.specs.Tests.{first};

@@ -1,5 +1,5 @@
 // What deposits and withdrawals share: an LP amount's worth in both tokens.
-use curve::answer::Answer;
+use answer::Answer;
 use curve::constant_product::LpTokens;
 use curve::constant_product::RoundDirection;
 use curve::constant_product::TradingTokenResult;

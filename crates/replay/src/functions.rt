@@ -16,13 +16,13 @@ use curve::constant_product::TradingTokens;
 use curve::constant_product::lp_tokens_to_trading_tokens;
 use curve::constant_product::swap_base_input_without_fees;
 use curve::constant_product::swap_base_output_without_fees;
-use curve::fees::calculate_pre_fee_amount;
-use curve::fees::creator_fee;
-use curve::fees::creator_fee_shared_amount;
-use curve::fees::fund_fee;
-use curve::fees::protocol_fee;
-use curve::fees::split_creator_fee;
-use curve::fees::trading_fee;
+use fees::calculate_pre_fee_amount;
+use fees::creator_fee;
+use fees::creator_fee_shared_amount;
+use fees::fund_fee;
+use fees::protocol_fee;
+use fees::split_creator_fee;
+use fees::trading_fee;
 use oracle::token_price_x32;
 
 fn lp_tokens(row: &[u64; 80]) -> bool {

@@ -1,5 +1,5 @@
 // Numbers of a row held against numbers of an answer.
-use curve::answer::Answer;
+use answer::Answer;
 use pool::state::After;
 use pool::state::Pool;
 use words::pool_of;

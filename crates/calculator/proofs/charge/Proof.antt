@@ -1,6 +1,6 @@
 -- `calculator::charge` meets its contract.
 -- Assumes nothing.
-use Rattle.curve.specs.Fees.{feeDown}
+use Rattle.fees.specs.Fees.{feeDown}
 use Rattle.calculator.specs.Calculator.{charged}
 use borrow.Author.Needs.{needs}
 use Rattle.calculator.proofs.charge.Statement.{statement}

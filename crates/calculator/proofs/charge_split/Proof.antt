@@ -2,7 +2,7 @@
 -- Assumes nothing.
 use mathlib.Core.Path.{_∙_}
 use native.Mathlib.Omega.{arith}
-use Rattle.curve.specs.Fees.{split}
+use Rattle.fees.specs.Fees.{split}
 use Rattle.calculator.specs.Stages.{chargedSplit}
 use Rattle.calculator.proofs.Swaps.{part-le}
 use borrow.Author.Needs.{needs}

@@ -4,7 +4,7 @@ use mathlib.Core.Path.{ap, _∙_}
 use native.Mathlib.Omega.{arith}
 use Rattle.refusal.proofs.Stops.{turns, outcome-at}
 use Rattle.calculator.specs.declared.SwapAnswer.the-variants.{Swapped}
-use Rattle.curve.specs.Fees.{feeUp}
+use Rattle.fees.specs.Fees.{feeUp}
 use Rattle.calculator.specs.Stages.{inputStage}
 use Rattle.calculator.proofs.Swaps.{fee-le, input-on-input}
 use borrow.Author.Needs.{needs}

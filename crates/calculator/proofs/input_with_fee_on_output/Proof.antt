@@ -3,7 +3,7 @@
 use mathlib.Core.Path.{ap, _∙_}
 use native.Mathlib.Omega.{arith}
 use Rattle.calculator.specs.declared.SwapAnswer.the-variants.{Swapped}
-use Rattle.curve.specs.Fees.{feeUp}
+use Rattle.fees.specs.Fees.{feeUp}
 use Rattle.calculator.proofs.Swaps.{fee-le, input-on-output}
 use borrow.Author.Needs.{needs}
 use Rattle.calculator.proofs.input_with_fee_on_output.Statement.{statement}

@@ -7,7 +7,7 @@ use native.Mathlib.Omega.{arith}
 use Rattle.math.specs.Ratio.{fit}
 use borrow.Author.Tests.{ne-eqb}
 use Rattle.refusal.proofs.Stops.{turns, outcome-at}
-use Rattle.curve.specs.Fees.{preFee}
+use Rattle.fees.specs.Fees.{preFee}
 use Rattle.calculator.specs.Calculator.{charged, curveOutput, curveInput, noSplit, quoteTests, withFees}
 use Rattle.calculator.specs.Stages.{outputStage}
 use Rattle.calculator.proofs.Swaps.{pre-fee-ge, Told, told-fits, told-past}

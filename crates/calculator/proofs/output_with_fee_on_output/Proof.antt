@@ -5,7 +5,7 @@ use mathlib.Core.Bool.{false}
 use Prim.Native.Nat.{_<_}
 use native.Mathlib.Omega.{arith}
 use Rattle.math.specs.Ratio.{fit}
-use Rattle.curve.specs.Fees.{preFee}
+use Rattle.fees.specs.Fees.{preFee}
 use Rattle.calculator.specs.Calculator.{charged, curveOutput, curveInput, withFees}
 use Rattle.calculator.proofs.Swaps.{pre-fee-ge, Told, told-fits, told-past}
 use Rattle.calculator.proofs.Swaps.{not-there, asks, asked-past, input-past, swapped, charged-on-output}

@@ -4,7 +4,7 @@ use mathlib.Core.Path.{_≡_, refl, ap, _∙_}
 use mathlib.Core.Bool.{true}
 use Prim.Native.Nat.{ℕ, _*_}
 use lib.Dec.{eqb}
-use Rattle.math.specs.Root.{root}
+use Rattle.root.specs.Root.{root}
 use Rattle.refusal.specs.Tests.{_then_, first}
 use Rattle.refusal.proofs.Stops.{numbered, outcome-stop, outcome-go}
 use Rattle.calculator.specs.declared.Rates.{Rates}

@@ -1,7 +1,7 @@
 -- `curve::constant_product::both` meets its contract, by the cases of the two answers.
 -- Assumes nothing.
 use mathlib.Core.Path.{_≡_}
-use Rattle.curve.specs.declared.answer.Answer.the-variants.{Amount}
+use Rattle.answer.specs.declared.Answer.the-variants.{Amount}
 use borrow.Author.Needs.{needs}
 use Rattle.curve.proofs.constant_product.both.Statement.{statement}
 use Rattle.curve.proofs.constant_product.both.Tie as tie
@@ -18,18 +18,18 @@ enum-known-amount-1 c = search needs
 enum-known-amount-1-2 : tie.Need-enum-known-amount-1-2
 enum-known-amount-1-2 c = search needs
 
-returns : tie.Need-returns
-returns c = cc
-
-returns-2 : tie.Need-returns-2
-returns-2 c = cc
-
 -- the amounts that the two patterns bind
 amount-0 : (c : tie.After-amount-02) → c .before .before .args .amount-0 ≡ Amount (c .amount-02 .given .0 .0)
 amount-0 c = c .amount-02 .given .1
 
 amount-1 : (c : tie.After-amount-12) → c .before .before .before .before .before .args .amount-1 ≡ Amount (c .amount-12 .given .0 .0)
 amount-1 c = c .amount-12 .given .1
+
+returns : tie.Need-returns
+returns c = rw (c .before .amount-0 .given .1)
+
+returns-2 : tie.Need-returns-2
+returns-2 c = rw (amount-0 (c .before .before .before .before), c .before .amount-1 .given .1)
 
 returns-3 : tie.Need-returns-3
 returns-3 c = rw (amount-0 (c .before .before .before .before), amount-1 (c .before))

@@ -1,15 +1,15 @@
 -- `curve::constant_product::swap_base_input_without_fees` meets its contract.
 -- Assumes nothing.
 use mathlib.Core.Path.{_≡_, refl, sym, ap, _∙_}
-use Rattle.curve.specs.Answer.{answerOf}
+use Rattle.answer.specs.Answer.{answerOf}
 use Rattle.curve.specs.ConstantProduct.{swapBaseInputWithoutFees, swapOut}
-use Rattle.curve.proofs.Answers.{floor-answer}
+use Rattle.answer.proofs.Answers.{floor-answer}
 use borrow.Author.Needs.{needs}
 use Rattle.curve.proofs.constant_product.swap_base_input_without_fees.Statement.{statement}
 use Rattle.curve.proofs.constant_product.swap_base_input_without_fees.Tie as tie
 use Rattle.curve.proofs.constant_product.swap_base_input_without_fees.Reads as reads
 use Rattle.curve.proofs.constant_product.swap_base_input_without_fees.Lts as lts
-use Rattle.curve.proofs.answer.from_quotient.Reads as from-quotient-reads
+use Rattle.answer.proofs.from_quotient.Reads as from-quotient-reads
 use Rattle.math.proofs.ratio.mul_div_sum.Reads as mul-div-sum-reads
 
 mul-div-sum-requires : tie.Need-mul-div-sum-requires

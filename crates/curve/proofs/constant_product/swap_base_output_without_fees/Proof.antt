@@ -1,11 +1,14 @@
 -- `curve::constant_product::swap_base_output_without_fees` meets its contract.
 -- Assumes nothing.
 use mathlib.Core.Path.{_≡_, refl, sym, ap, _∙_}
+use Prim.Native.Nat.{ℕ, _*_, _-_, _<_}
 use native.Mathlib.Omega.{arith}
-use Rattle.refusal.proofs.Stops.{turns, outcome-at, outcome-all}
-use Rattle.curve.specs.Answer.{answerOf}
-use Rattle.curve.specs.ConstantProduct.{swapBaseOutputWithoutFees}
-use Rattle.curve.proofs.Shares.{output-quotient}
+use Rattle.math.specs.Ratio.{ceilOf}
+use Rattle.refusal.specs.Refusal.{Panic}
+use Rattle.refusal.proofs.Stops.{turns, outcome-at, outcome-past}
+use Rattle.answer.specs.Answer.{answerOf}
+use Rattle.curve.specs.ConstantProduct.{swapIn, swapBaseOutputWithoutFees}
+use Rattle.answer.proofs.Answers.{ceil-answer}
 use borrow.Author.Needs.{needs}
 use Rattle.curve.proofs.constant_product.swap_base_output_without_fees.Statement.{
   statement,
@@ -13,8 +16,17 @@ use Rattle.curve.proofs.constant_product.swap_base_output_without_fees.
 use Rattle.curve.proofs.constant_product.swap_base_output_without_fees.Tie as tie
 use Rattle.curve.proofs.constant_product.swap_base_output_without_fees.Reads as reads
 use Rattle.curve.proofs.constant_product.swap_base_output_without_fees.Lts as lts
-use Rattle.curve.proofs.answer.from_quotient.Reads as from-quotient-reads
+use Rattle.answer.proofs.from_quotient.Reads as from-quotient-reads
 use Rattle.math.proofs.ratio.mul_div_ceil.Reads as mul-div-ceil-reads
+
+-- what an output asks: the net is above it, so that there is a divisor
+output-quotient :
+    (o netIn netOut : ℕ) → o < netOut → answerOf Panic Panic (ceilOf (netIn * o) (netOut - o)) ≡ swapBaseOutputWithoutFees o netIn netOut
+unfolding swapBaseOutputWithoutFees swapIn
+output-quotient o netIn netOut l =
+    ceil-answer Panic Panic (netIn * o) (netOut - o)
+    ∙ sym (outcome-past _ _ _ _ (omega (arith, turns)))
+    ∙ outcome-past _ _ _ _ (omega (arith, turns))
 
 returns : tie.Need-returns
 unfolding swapBaseOutputWithoutFees

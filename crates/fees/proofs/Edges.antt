@@ -1,0 +1,21 @@
+-- Document 01's edges that speak of the fees alone, by computation.
+-- Assumes nothing.
+use mathlib.Core.Path.{_≡_, refl}
+use Rattle.refusal.specs.Tests.{outcome}
+use Rattle.answer.specs.declared.Answer.the-variants.{Amount, Refused}
+use Rattle.fees.specs.Fees.{feeUp, preFee, ceilFee, tradingFee, calculatePreFeeAmount, splitCreatorFee, split}
+
+-- fee on 2 is 1
+pub fee-on-two : tradingFee 2 2500 ≡ Amount 1
+unfolding ceilFee feeUp outcome
+fee-on-two = refl
+
+-- 9,975 after the fee is 10,000 with it
+pub before-the-fee : calculatePreFeeAmount 9975 2500 ≡ Amount 10000
+unfolding calculatePreFeeAmount preFee outcome
+before-the-fee = refl
+
+-- a rate sum of 0 has no split
+pub no-split : splitCreatorFee 25 0 0 ≡ Refused 4
+unfolding splitCreatorFee split outcome
+no-split = refl

@@ -1,0 +1,104 @@
+// The fees, `curve/fees.rs` of the original: shares of an amount at a rate in millionths.
+use answer::Answer;
+use answer::from_quotient;
+use math::ratio::mul_div_ceil;
+use math::ratio::mul_div_floor;
+use refusal::MATH_OVERFLOW;
+use refusal::ZERO_TRADING_TOKENS;
+use share::scale_ceil;
+use share::share_ceil;
+use share::share_floor;
+ghost use mathlib.Core.Path.{_≡_};
+ghost use Rattle.fees.specs.Fees.{ceilFee, floorFee, tradingFee, protocolFee, fundFee, creatorFee, creatorFeeSharedAmount, splitCreatorFee, calculatePreFeeAmount};
+
+// Rates are in millionths.
+pub const FEE_RATE_DENOMINATOR_VALUE: u64 = 1_000_000;
+
+// Up to this divisor a share is reckoned in 64 bits.
+const NARROW: u64 = 0x1_0000_0000;
+
+// amount × rate / 1,000,000, rounded up. A rate of at most the whole takes no 128-bit division.
+fn ceil_div(amount: u64, rate: u64) -> Answer
+    ensures { λ r. ⌜ r ≡ ceilFee amount rate ⌝ }
+{
+    if rate <= FEE_RATE_DENOMINATOR_VALUE {
+        return Answer::Amount(share_ceil(amount, rate, FEE_RATE_DENOMINATOR_VALUE));
+    }
+    let fee = mul_div_ceil(amount, rate, FEE_RATE_DENOMINATOR_VALUE);
+    from_quotient(fee, ZERO_TRADING_TOKENS, MATH_OVERFLOW)
+}
+
+// amount × rate / 1,000,000, rounded down, likewise.
+fn floor_div(amount: u64, rate: u64) -> Answer
+    ensures { λ r. ⌜ r ≡ floorFee amount rate ⌝ }
+{
+    if rate <= FEE_RATE_DENOMINATOR_VALUE {
+        return Answer::Amount(share_floor(amount, rate, FEE_RATE_DENOMINATOR_VALUE));
+    }
+    let fee = mul_div_floor(amount, rate, FEE_RATE_DENOMINATOR_VALUE);
+    from_quotient(fee, ZERO_TRADING_TOKENS, MATH_OVERFLOW)
+}
+
+pub fn trading_fee(amount: u64, trade_fee_rate: u64) -> Answer
+    ensures { λ r. ⌜ r ≡ tradingFee amount «trade_fee_rate» ⌝ }
+{
+    ceil_div(amount, trade_fee_rate)
+}
+
+pub fn protocol_fee(amount: u64, protocol_fee_rate: u64) -> Answer
+    ensures { λ r. ⌜ r ≡ protocolFee amount «protocol_fee_rate» ⌝ }
+{
+    floor_div(amount, protocol_fee_rate)
+}
+
+pub fn fund_fee(amount: u64, fund_fee_rate: u64) -> Answer
+    ensures { λ r. ⌜ r ≡ fundFee amount «fund_fee_rate» ⌝ }
+{
+    floor_div(amount, fund_fee_rate)
+}
+
+pub fn creator_fee(amount: u64, creator_fee_rate: u64) -> Answer
+    ensures { λ r. ⌜ r ≡ creatorFee amount «creator_fee_rate» ⌝ }
+{
+    ceil_div(amount, creator_fee_rate)
+}
+
+// The share of the creator fee that goes to the protocol.
+pub fn creator_fee_shared_amount(amount: u64, share_rate: u64) -> Answer
+    ensures { λ r. ⌜ r ≡ creatorFeeSharedAmount amount «share_rate» ⌝ }
+{
+    floor_div(amount, share_rate)
+}
+
+// The creator's part of a fee that was taken at both rates together.
+pub fn split_creator_fee(total_fee: u64, trade_fee_rate: u64, creator_fee_rate: u64) -> Answer
+    ensures { λ r. ⌜ r ≡ splitCreatorFee «total_fee» «trade_fee_rate» «creator_fee_rate» ⌝ }
+{
+    if trade_fee_rate > u64::MAX - creator_fee_rate {
+        return Answer::Refused(MATH_OVERFLOW);
+    }
+    let whole = trade_fee_rate + creator_fee_rate;
+    if whole == 0 {
+        return Answer::Refused(ZERO_TRADING_TOKENS);
+    }
+    if whole <= NARROW {
+        return Answer::Amount(share_floor(total_fee, creator_fee_rate, whole));
+    }
+    let part = mul_div_floor(total_fee, creator_fee_rate, whole);
+    from_quotient(part, ZERO_TRADING_TOKENS, MATH_OVERFLOW)
+}
+
+// The least amount that leaves `post_fee_amount` after a fee at the rate.
+pub fn calculate_pre_fee_amount(post_fee_amount: u64, trade_fee_rate: u64) -> Answer
+    ensures { λ r. ⌜ r ≡ calculatePreFeeAmount «post_fee_amount» «trade_fee_rate» ⌝ }
+{
+    if trade_fee_rate == 0 {
+        return Answer::Amount(post_fee_amount);
+    }
+    if trade_fee_rate >= FEE_RATE_DENOMINATOR_VALUE {
+        return Answer::Refused(ZERO_TRADING_TOKENS);
+    }
+    let left = FEE_RATE_DENOMINATOR_VALUE - trade_fee_rate;
+    let pre_fee_amount = scale_ceil(post_fee_amount, FEE_RATE_DENOMINATOR_VALUE, left);
+    from_quotient(pre_fee_amount, ZERO_TRADING_TOKENS, MATH_OVERFLOW)
+}

@@ -1,0 +1,57 @@
+-- Parts of an amount by a divisor of at most 2 ^ 32: what is left of the amount is short enough to be scaled in 64 bits.
+use mathlib.Core.Path.{_≡_, sym, ap, _∙_, subst}
+use Prim.Native.Nat.{ℕ, _+_, _-_, _*_, _/_, _%_, _^_, _≤_, _<_}
+use native.Mathlib.Nat.{mul-le-mul, mul-le-mul-left, le-trans, lt-of-le-of-lt, mod-lt, div-lt-iff-lt-mul, le-div-iff-mul-le}
+use native.Mathlib.Omega.{arith}
+use Rattle.wide.specs.Division.{ceilDiv}
+use Rattle.wide.proofs.Long.{floor-parted}
+use Rattle.math.specs.declared.ratio.Quotient.the-variants as Q
+use Rattle.math.specs.Ratio.{ceilOf}
+use Rattle.math.proofs.Rounding.{floor-le, ceil-parted, share-floor-le, share-ceil-le, ceil-fits, ceil-past}
+
+-- what a division by d leaves, k times
+module _ (n k d : ℕ) (hd : 0 < d) (short : d ≤ 2 ^ 32) (hk : k ≤ 2 ^ 32) where
+  rest-le : n % d * k ≤ (2 ^ 32 - 1) * 2 ^ 32
+  rest-le = mul-le-mul {n₂ = 2 ^ 32 - 1} {m₂ = 2 ^ 32} (omega (arith, mod-lt n hd)) hk
+
+  pub rest-fits : n % d * k < 2 ^ 64
+  rest-fits = omega (arith, rest-le)
+
+  pub raised-rest-fits : n % d * k + (d - 1) < 2 ^ 64
+  raised-rest-fits = omega (arith, rest-le)
+
+-- at a rate of at most the whole, no part passes the amount
+module _ (amount rate whole : ℕ) (h : rate ≤ whole) (hw : 0 < whole) (fits : amount < 2 ^ 64) where
+  pub times-fits : amount / whole * rate < 2 ^ 64
+  times-fits = lt-of-le-of-lt (le-trans (mul-le-mul-left (amount / whole) h) (floor-le amount whole)) fits
+
+  pub floor-sum-fits : amount / whole * rate + amount % whole * rate / whole < 2 ^ 64
+  floor-sum-fits = lt-of-le-of-lt (subst (λ (x : ℕ). x ≤ amount) (floor-parted amount rate whole hw) (share-floor-le amount rate whole h)) fits
+
+  pub ceil-sum-fits : amount / whole * rate + ceilDiv (amount % whole * rate) whole < 2 ^ 64
+  ceil-sum-fits = lt-of-le-of-lt (subst (λ (x : ℕ). x ≤ amount) (ceil-parted amount rate whole hw) (share-ceil-le amount rate whole h)) fits
+
+-- an amount scaled up, as an answer
+module _ (amount whole part : ℕ) (hp : 0 < part) (hw : 0 < whole) where
+  pub scaled-past : (2 ^ 64 - 1) / whole < amount / part → Q.Past ≡ ceilOf (amount * whole) part
+  scaled-past h =
+      let past : 2 ^ 64 - 1 < amount / part * whole = div-lt-iff-lt-mul {k = whole} {x = 2 ^ 64 - 1} {y = amount / part} hw .0 h in
+      sym (ceil-past (amount * whole) part hp (omega (arith, past, ceil-parted amount whole part hp)))
+
+  pub scaled-le : amount / part ≤ (2 ^ 64 - 1) / whole → amount / part * whole ≤ 2 ^ 64 - 1
+  scaled-le h = le-div-iff-mul-le {k = whole} {x = amount / part} {y = 2 ^ 64 - 1} hw .0 h
+
+  module _ (le : amount / part * whole ≤ 2 ^ 64 - 1) where
+    pub sum-lt : ceilDiv (amount % part * whole) part ≤ 2 ^ 64 - 1 - amount / part * whole
+        → amount / part * whole + ceilDiv (amount % part * whole) part < 2 ^ 64
+    sum-lt h = omega arith
+
+    pub sum-fits : ceilDiv (amount % part * whole) part ≤ 2 ^ 64 - 1 - amount / part * whole
+        → Q.Fits (amount / part * whole + ceilDiv (amount % part * whole) part) ≡ ceilOf (amount * whole) part
+    sum-fits h =
+        let e = ceil-parted amount whole part hp in
+        ap Q.Fits (sym e) ∙ sym (ceil-fits (amount * whole) part hp (subst (λ (x : ℕ). x < 2 ^ 64) (sym e) (sum-lt h)))
+
+    pub sum-past : 2 ^ 64 - 1 - amount / part * whole < ceilDiv (amount % part * whole) part
+        → Q.Past ≡ ceilOf (amount * whole) part
+    sum-past h = sym (ceil-past (amount * whole) part hp (omega (arith, ceil-parted amount whole part hp)))

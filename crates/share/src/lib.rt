@@ -1,0 +1,40 @@
+// Parts of an amount at a rate, as rate / whole of it, by utils/math.rs of the original. The whole has at most 33 bits, so u64 is wide enough throughout.
+use math::ratio::Quotient;
+ghost use mathlib.Core.Path.{_≡_};
+ghost use Prim.Native.Nat.{_*_, _/_, _^_, _≤_, _<_};
+ghost use Rattle.wide.specs.Division.{ceilDiv};
+ghost use Rattle.math.specs.Ratio.{ceilOf};
+
+// amount * rate / whole, rounded down: protocol, fund and shared part.
+pub fn share_floor(amount: u64, rate: u64, whole: u64) -> u64
+    requires { ⌜ (rate ≤ whole) × (0 < whole) × (whole ≤ 2 ^ 32) ⌝ }
+    ensures { λ r. ⌜ r ≡ amount * rate / whole ⌝ }
+{
+    amount / whole * rate + amount % whole * rate / whole
+}
+
+// amount * rate / whole, rounded up: trading and creator fee.
+pub fn share_ceil(amount: u64, rate: u64, whole: u64) -> u64
+    requires { ⌜ (rate ≤ whole) × (0 < whole) × (whole ≤ 2 ^ 32) ⌝ }
+    ensures { λ r. ⌜ r ≡ ceilDiv (amount * rate) whole ⌝ }
+{
+    amount / whole * rate + (amount % whole * rate + (whole - 1)) / whole
+}
+
+// amount * whole / part, rounded up: the amount before fees, of which the part stays after them.
+pub fn scale_ceil(amount: u64, whole: u64, part: u64) -> Quotient
+    requires { ⌜ (0 < part) × (part ≤ whole) × (whole ≤ 2 ^ 32) ⌝ }
+    ensures { λ r. ⌜ r ≡ ceilOf (amount * whole) part ⌝ }
+{
+    let times = amount / part;
+    let rest = (amount % part * whole + (part - 1)) / part;
+    if u64::MAX / whole < times {
+        return Quotient::Past;
+    }
+    let scaled = times * whole;
+    if rest <= u64::MAX - scaled {
+        Quotient::Fits(scaled + rest)
+    } else {
+        Quotient::Past
+    }
+}
