@@ -9,7 +9,7 @@ use lib.Dec.{eqb}
 use Rattle.wide.specs.Division.{ceilDiv}
 use Rattle.math.proofs.Rounding.{ceil-ge, share-floor-le, share-ceil-le, shares-le}
 use Rattle.math.proofs.Curve.{out-le, product-kept-by-input, product-kept-by-output}
-use Rattle.calculator.specs.declared.Rates.{Rates}
+use Rattle.rates.specs.declared.Rates.{Rates}
 use Rattle.fees.specs.Fees.{Million, feeUp, feeDown, split, preFee}
 use Rattle.curve.specs.ConstantProduct.{swapOut, swapIn}
 use Rattle.calculator.specs.declared.SwapResult.{SwapResult}

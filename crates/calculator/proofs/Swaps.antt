@@ -20,13 +20,14 @@ use Rattle.math.proofs.Rounding.{lt-or-le, floor-le-ceil, share-floor-le, share
 use Rattle.refusal.specs.Refusal.{Panic}
 use Rattle.refusal.specs.Tests.{Tests, U64, _then_, first, outcome}
 use Rattle.refusal.proofs.Stops.{turns, facts, first-passed, outcome-at, outcome-all, outcome-past}
-use Rattle.calculator.specs.declared.Rates.{Rates}
+use Rattle.rates.specs.declared.Rates.{Rates}
 use Rattle.calculator.specs.declared.SwapResult.{SwapResult}
 use Rattle.calculator.specs.declared.SwapAnswer.{SwapAnswer}
 use Rattle.calculator.specs.declared.SwapAnswer.the-variants.{Swapped, Refused}
 use Rattle.fees.specs.Fees.{Million, feeUp, split, preFee}
 use Rattle.curve.specs.ConstantProduct.{swapOut, swapIn}
-use Rattle.calculator.specs.Calculator.{rateLimits, noSplit, charged, swapBaseInput, curveOutput, curveInput, withFees, quoteTests, swapBaseOutput}
+use Rattle.rates.specs.Rates.{rateLimits}
+use Rattle.calculator.specs.Calculator.{noSplit, charged, swapBaseInput, curveOutput, curveInput, withFees, quoteTests, swapBaseOutput}
 use Rattle.calculator.specs.Stages.{Limited, chargedSplit, inputStage, outputStage}
 
 -- ---- the rate limits

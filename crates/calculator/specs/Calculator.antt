@@ -1,36 +1,18 @@
 -- Document 01, 'constant_product.rs, then calculator.rs': the two swaps with fees.
 -- netIn is the net of the token that goes in, netOut of the other; creatorRate is the rate that counts (0 unless the pool enables it).
 use Prim.Native.Nat.{ℕ, _+_, _-_}
-use mathlib.Core.Bool.{Bool, true, false, not, _&&_, _||_}
+use mathlib.Core.Bool.{Bool, true, false, _&&_}
 use mathlib.Core.List.{[], _∷_}
-use lib.Dec.{ltb, leb, eqb}
-use Rattle.refusal.specs.Refusal.{InvalidInput, Panic, ZeroTradingTokens}
+use lib.Dec.{leb, eqb}
+use Rattle.refusal.specs.Refusal.{Panic, ZeroTradingTokens}
 use Rattle.refusal.specs.Tests.{Tests, _then_, past, outcome}
-use Rattle.calculator.specs.declared.Rates.{Rates}
+use Rattle.rates.specs.declared.Rates.{Rates}
+use Rattle.rates.specs.Rates.{rateLimits}
 use Rattle.calculator.specs.declared.SwapResult.{SwapResult}
 use Rattle.calculator.specs.declared.SwapAnswer.{SwapAnswer}
 use Rattle.calculator.specs.declared.SwapAnswer.the-variants.{Swapped, Refused}
-use Rattle.fees.specs.Fees.{Million, feeUp, feeDown, split, preFee}
+use Rattle.fees.specs.Fees.{feeUp, feeDown, split, preFee}
 use Rattle.curve.specs.ConstantProduct.{swapOut, swapIn}
-
--- trade + creator above 999,999, protocol + fund above 1,000,000, summed without wrap, 3
-unfoldable pub rateLimits : Rates → ℕ → Tests
-rateLimits rates creatorRate =
-    (ltb 999999 (rates .trade + creatorRate), InvalidInput)
-    ∷ (ltb Million (rates .protocol + rates .fund), InvalidInput)
-    ∷ []
-
--- opening's limits on trade + creator and protocol + fund, whether creator fees are enabled or not, 3
-abbrev pub limitTests : Rates → Tests
-limitTests rates = rateLimits rates (rates .creator)
-
--- the rates of an opening: these limits, and share above 1,000,000, 3
-unfoldable pub rateTests : Rates → Tests
-rateTests rates = limitTests rates then ((ltb Million (rates .share), InvalidInput) ∷ [])
-
--- fee model 0 means input always, 1 input if token 0 goes in, 2 input if token 1 goes in
-unfoldable pub onInput : ℕ → Bool → Bool
-onInput model zeroIn = eqb model 0 || (eqb model 1 && zeroIn || eqb model 2 && not zeroIn)
 
 -- no split: fee on input, and trade plus creator rate is 0
 abbrev pub noSplit : Bool → ℕ → ℕ → Bool

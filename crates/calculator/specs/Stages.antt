@@ -5,7 +5,7 @@ use mathlib.Core.List.{[], _∷_}
 use Rattle.refusal.specs.Refusal.{ZeroTradingTokens}
 use Rattle.refusal.specs.Tests.{outcome}
 use Rattle.fees.specs.Fees.{Million, split}
-use Rattle.calculator.specs.declared.Rates.{Rates}
+use Rattle.rates.specs.declared.Rates.{Rates}
 use Rattle.calculator.specs.declared.SwapResult.{SwapResult}
 use Rattle.calculator.specs.declared.SwapAnswer.{SwapAnswer}
 use Rattle.calculator.specs.declared.SwapAnswer.the-variants.{Swapped, Refused}

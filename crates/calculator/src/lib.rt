@@ -1,11 +1,12 @@
-// The rates' limits and the swaps with fees (document 01, 'constant_product.rs, then calculator.rs').
+// The swaps with fees (document 01, 'constant_product.rs, then calculator.rs').
 // `net_in` is the net of the token that goes in, `net_out` of the other; `creator_rate` is the rate that counts, 0 unless the pool enables it.
 use fees::FEE_RATE_DENOMINATOR_VALUE;
 use math::ratio::Quotient;
 use math::ratio::div_by_sum;
 use math::ratio::mul_div_ceil;
+use rates::Rates;
+use rates::limit_number;
 use refusal::ACCEPTED;
-use refusal::INVALID_INPUT;
 use refusal::PANIC;
 use refusal::ZERO_TRADING_TOKENS;
 use share::scale_ceil;
@@ -16,20 +17,10 @@ ghost use mathlib.Core.Bool.{true, false};
 ghost use mathlib.Core.Path.{_≡_};
 ghost use Prim.Native.Nat.{_+_, _<_, _≤_};
 ghost use Rattle.math.specs.Ratio.{fit};
-ghost use Rattle.refusal.specs.Tests.{first};
 ghost use Rattle.fees.specs.Fees.{Million, preFee};
 ghost use Rattle.curve.specs.ConstantProduct.{swapOut};
-ghost use Rattle.calculator.specs.Calculator.{rateLimits, rateTests, onInput, charged, inputAnswer, outputAnswer};
+ghost use Rattle.calculator.specs.Calculator.{charged, inputAnswer, outputAnswer};
 ghost use Rattle.calculator.specs.Stages.{Limited, chargedSplit, inputStage, outputStage};
-
-// A pool's rates, in millionths.
-pub struct Rates {
-    pub trade: u64,
-    pub protocol: u64,
-    pub fund: u64,
-    pub creator: u64,
-    pub share: u64,
-}
 
 // What a swap moves and charges. `creator` is of the creator fee's token, the other fees are of the input.
 pub struct SwapResult {
@@ -45,61 +36,6 @@ pub struct SwapResult {
 pub enum SwapAnswer {
     Swapped(SwapResult),
     Refused(u64),
-}
-
-// The highest that trade and creator rate may sum to.
-const HIGHEST_FEE_RATE: u64 = 999_999;
-
-// Fee model 0 means input always, 1 input if token 0 goes in, 2 input if token 1 goes in.
-pub fn is_creator_fee_on_input(fee_model: u64, zero_in: bool) -> bool
-    ensures { λ r. ⌜ r ≡ onInput «fee_model» «zero_in» ⌝ }
-{
-    if fee_model == 0 {
-        return true;
-    }
-    if fee_model == 1 {
-        return zero_in;
-    }
-    if fee_model == 2 {
-        return !zero_in;
-    }
-    false
-}
-
-// The rate limits' number: the sums are tested by differences, so that none wraps.
-pub fn limit_number(rates: Rates, creator_rate: u64) -> u64
-    ensures { λ r. ⌜ r ≡ first (rateLimits rates «creator_rate») ⌝ }
-{
-    let trade = rates.trade;
-    let protocol = rates.protocol;
-    let fund = rates.fund;
-    if trade > HIGHEST_FEE_RATE {
-        return INVALID_INPUT;
-    }
-    if creator_rate > HIGHEST_FEE_RATE - trade {
-        return INVALID_INPUT;
-    }
-    if protocol > FEE_RATE_DENOMINATOR_VALUE {
-        return INVALID_INPUT;
-    }
-    if fund > FEE_RATE_DENOMINATOR_VALUE - protocol {
-        return INVALID_INPUT;
-    }
-    ACCEPTED
-}
-
-// The rates of an opening: these limits, and share above 1,000,000, 3; or 0.
-pub fn rate_number(rates: Rates) -> u64
-    ensures { λ r. ⌜ r ≡ first (rateTests rates) ⌝ }
-{
-    let limit = limit_number(rates, rates.creator);
-    if limit != ACCEPTED {
-        return limit;
-    }
-    if rates.share > FEE_RATE_DENOMINATOR_VALUE {
-        return INVALID_INPUT;
-    }
-    ACCEPTED
 }
 
 // Protocol and fund fee are shares of the trade fee.

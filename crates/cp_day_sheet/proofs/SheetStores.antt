@@ -6,7 +6,7 @@ use mathlib.Core.List.{List, [], _∷_}
 use lib.ListN.{length, take}
 use Rattle.refusal.specs.Tests.{first, outcome}
 use Rattle.refusal.proofs.Stops.{outcome-stop, outcome-go}
-use Rattle.calculator.specs.declared.Rates.{Rates}
+use Rattle.rates.specs.declared.Rates.{Rates}
 use Rattle.pool.specs.declared.state.Pool.{Pool}
 use Rattle.words.specs.Words.{ratesOf, at, poolWords, poolOf}
 use Rattle.sheet.specs.Sheet.{sheetOf}

@@ -4,7 +4,7 @@ use Prim.Native.Nat.{ℕ}
 use mathlib.Core.List.{List, [], _∷_}
 use lib.ListN.{length, take}
 use Rattle.refusal.specs.Tests.{outcome}
-use Rattle.calculator.specs.declared.Rates.{Rates}
+use Rattle.rates.specs.declared.Rates.{Rates}
 use Rattle.oracle.specs.Ring.{Entries}
 use Rattle.words.specs.Words.{ratesOf, at, poolWords, poolOf}
 use Rattle.sheet.specs.Sheet.{Sheet}

@@ -1,8 +1,8 @@
 // A day sheet over plain memory, piece by piece (document 01, 'The day sheet').
 // The caller lends the pool's record, the ring's entries, six numbers of the sheet (the rates for the next opening, and how many bytes
 // are held of a row that is begun) and those bytes; all zeros to begin with. The progress: bytes taken, bytes written.
-use calculator::Rates;
 use cp_swap::calls::record_number;
+use rates::Rates;
 use refusal::ACCEPTED;
 use sheet::turn::Sheet;
 use stream::feed::Going;

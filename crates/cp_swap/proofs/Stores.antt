@@ -8,7 +8,7 @@ use lib.Dec.{eqb}
 use borrow.Author.Tests.{eq-eqb, ne-eqb, eqb-true, eqb-false}
 use Rattle.refusal.specs.Tests.{first}
 use Rattle.refusal.proofs.Stops.{outcome-stop, outcome-go}
-use Rattle.calculator.specs.declared.Rates.{Rates}
+use Rattle.rates.specs.declared.Rates.{Rates}
 use Rattle.accounting.specs.declared.Nets.{Nets}
 use Rattle.accounting.specs.Counters.{netsAnswer}
 use Rattle.pool.specs.declared.state.Pool.{Pool}

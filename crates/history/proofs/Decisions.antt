@@ -7,12 +7,13 @@ use lib.Dec.{eqb}
 use Rattle.root.specs.Root.{root}
 use Rattle.refusal.specs.Tests.{Tests, _then_, outcome}
 use Rattle.refusal.proofs.Stops.{numbered, outcome-map}
-use Rattle.calculator.specs.declared.Rates.{Rates}
+use Rattle.rates.specs.declared.Rates.{Rates}
 use Rattle.curve.specs.declared.constant_product.RoundDirection.the-variants.{Floor, Ceiling}
 use Rattle.fees.specs.Fees.{feeDown}
 use Rattle.curve.specs.ConstantProduct.{lpAmount}
 use Rattle.calculator.specs.declared.SwapResult.{SwapResult}
-use Rattle.calculator.specs.Calculator.{rateLimits, rateTests, quoteTests, onInput, swapBaseInput as inputWithFees, swapBaseOutput as outputWithFees}
+use Rattle.rates.specs.Rates.{rateLimits, rateTests, onInput}
+use Rattle.calculator.specs.Calculator.{quoteTests, swapBaseInput as inputWithFees, swapBaseOutput as outputWithFees}
 use Rattle.accounting.specs.Counters.{counterTests}
 use Rattle.accounting.specs.Booking.{pastTests, bookingTests}
 use Rattle.oracle.specs.Ring.{Entries, ringTests}

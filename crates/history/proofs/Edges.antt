@@ -5,7 +5,8 @@ use Rattle.root.specs.Root.{rootAt, root}
 use Rattle.refusal.specs.Tests.{_then_, outcome}
 use Rattle.fees.specs.Fees.{feeUp, feeDown, split, preFee}
 use Rattle.curve.specs.ConstantProduct.{swapOut, swapIn, lpAmount}
-use Rattle.calculator.specs.Calculator.{rateLimits, rateTests, onInput, swapBaseInput as inputWithFees, curveOutput, curveInput, charged, withFees, quoteTests, swapBaseOutput as outputWithFees}
+use Rattle.rates.specs.Rates.{rateLimits, rateTests, onInput}
+use Rattle.calculator.specs.Calculator.{swapBaseInput as inputWithFees, curveOutput, curveInput, charged, withFees, quoteTests, swapBaseOutput as outputWithFees}
 use Rattle.accounting.specs.Counters.{counterTests}
 use Rattle.accounting.specs.Booking.{booked, pastTests, bookingTests}
 use Rattle.oracle.specs.Ring.{entryAt, withEntry, price, ringTests, updated}

@@ -1,7 +1,7 @@
 -- Document 01, 'Edges': the starred ones and the worked day, one table. Each row is an opening, what is asked of its pool, and what must come out.
 use Prim.Native.Nat.{ℕ}
 use mathlib.Core.List.{List, [], _∷_}
-use Rattle.calculator.specs.declared.Rates.{Rates}
+use Rattle.rates.specs.declared.Rates.{Rates}
 use Rattle.curve.specs.declared.constant_product.LpTokens.{LpTokens}
 use Rattle.curve.specs.ConstantProduct.{tokens}
 use Rattle.pool.specs.State.{Done, net0, net1}

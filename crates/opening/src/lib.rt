@@ -1,10 +1,10 @@
 // Opening: a new pool from two amounts.
 use accounting::FeeCounters;
-use calculator::Rates;
-use calculator::rate_number;
 use oracle::Ring;
 use pool::state::After;
 use pool::state::Pool;
+use rates::Rates;
+use rates::rate_number;
 use receipt::amounts_receipt;
 use receipt::refusal_receipt;
 use refusal::ACCEPTED;

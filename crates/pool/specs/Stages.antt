@@ -6,8 +6,9 @@ use lib.Dec.{ltb, eqb}
 use Rattle.refusal.specs.Refusal.{ZeroTradingTokens, ExceededSlippage}
 use Rattle.refusal.specs.Tests.{Tests, _then_, outcome}
 use Rattle.fees.specs.Fees.{Million}
-use Rattle.calculator.specs.Calculator.{onInput, noSplit, quoteTests, inputAnswer, outputAnswer, swapBaseInput as inputWithFees, swapBaseOutput as outputWithFees}
-use Rattle.calculator.specs.declared.Rates.{Rates}
+use Rattle.rates.specs.Rates.{onInput}
+use Rattle.calculator.specs.Calculator.{noSplit, quoteTests, inputAnswer, outputAnswer, swapBaseInput as inputWithFees, swapBaseOutput as outputWithFees}
+use Rattle.rates.specs.declared.Rates.{Rates}
 use Rattle.calculator.specs.declared.SwapAnswer.{SwapAnswer}
 use Rattle.accounting.specs.Counters.{counters0, counters1}
 use Rattle.answer.specs.declared.Answer.{Answer}

@@ -2,8 +2,8 @@
 use crate::state::After;
 use crate::state::Pool;
 use crate::swap::closed_number;
-use calculator::limit_number;
 use oracle::store;
+use rates::limit_number;
 use refusal::ACCEPTED;
 use refusal::INVALID_VAULT;
 use refusal::REQUIRE_VIOLATED;

@@ -1,11 +1,11 @@
 // The calls: kinds 1 to 7.
 use crate::row::after_agrees;
 use crate::row::pool_at;
-use calculator::Rates;
 use curve::constant_product::LpTokens;
 use curve::constant_product::TradingTokens;
 use opening::open;
 use pool::state::Pool;
+use rates::Rates;
 use words::stand_at;
 
 // Whether two rings have the same numbers.

@@ -8,7 +8,6 @@ use accounting::Nets;
 use accounting::SwapFees;
 use accounting::creator_token;
 use accounting::vault_amount_without_fee;
-use calculator::is_creator_fee_on_input;
 use curve::constant_product::LpTokens;
 use curve::constant_product::RoundDirection;
 use curve::constant_product::TradingTokenResult;
@@ -24,6 +23,7 @@ use fees::protocol_fee;
 use fees::split_creator_fee;
 use fees::trading_fee;
 use oracle::token_price_x32;
+use rates::is_creator_fee_on_input;
 
 fn lp_tokens(row: &[u64; 80]) -> bool {
     let lp = LpTokens(row[1]);

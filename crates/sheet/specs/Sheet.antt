@@ -5,8 +5,8 @@ use mathlib.Core.List.{List, [], _∷_, _++_}
 use lib.Dec.{eqb}
 use Rattle.refusal.specs.Refusal.{UnreadableRow}
 use Rattle.refusal.specs.Tests.{first}
-use Rattle.calculator.specs.declared.Rates.{Rates}
-use Rattle.calculator.specs.Calculator.{rateTests}
+use Rattle.rates.specs.declared.Rates.{Rates}
+use Rattle.rates.specs.Rates.{rateTests}
 use Rattle.oracle.specs.Ring.{Entries}
 use Rattle.receipt.specs.declared.Receipt.{Receipt}
 use Rattle.pool.specs.declared.state.Pool.{Pool}

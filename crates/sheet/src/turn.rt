@@ -1,11 +1,11 @@
 // What a row of the day sheet does (document 01, 'The day sheet'): the sheet after it, and the receipt that its answer shows.
-use calculator::Rates;
-use calculator::rate_number;
 use curve::constant_product::LpTokens;
 use curve::constant_product::TradingTokens;
 use opening::open;
 use pool::state::After;
 use pool::state::Pool;
+use rates::Rates;
+use rates::rate_number;
 use receipt::Receipt;
 use receipt::refusal_receipt;
 use refusal::ACCEPTED;

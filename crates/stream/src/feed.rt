@@ -1,7 +1,7 @@
 // One piece of a day sheet's input (document 01, 'The day sheet').
-use calculator::Rates;
 use opening::zero;
 use pool::state::Pool;
+use rates::Rates;
 use rows::row::read_row;
 use rows::row::write_row_at;
 use sheet::turn::Sheet;

@@ -1,8 +1,8 @@
 // The pool's record, its receipt and the ring as plain numbers, in a fixed order.
 use accounting::FeeCounters;
-use calculator::Rates;
 use oracle::Ring;
 use pool::state::Pool;
+use rates::Rates;
 use receipt::Receipt;
 ghost use mathlib.Core.Path.{_≡_};
 ghost use mathlib.Core.Bool.{cond};

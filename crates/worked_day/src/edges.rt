@@ -1,12 +1,12 @@
 // Document 01's worked day and edges.
 use crate::show;
-use calculator::Rates;
 use curve::constant_product::LpTokens;
 use curve::constant_product::TradingTokens;
 use opening::Opened;
 use opening::open;
 use pool::state::After;
 use pool::state::Pool;
+use rates::Rates;
 
 pub(crate) fn rates(trade: u64, creator: u64) -> Rates {
     Rates {

@@ -4,12 +4,12 @@ use crate::edges::day;
 use crate::edges::rates;
 use crate::show;
 use accounting::FeeCounters;
-use calculator::Rates;
 use curve::constant_product::LpTokens;
 use curve::constant_product::TradingTokens;
 use opening::open;
 use opening::zero;
 use pool::state::Pool;
+use rates::Rates;
 
 // Vaults at the end of u64: the input's vault would pass it.
 fn vault_past() {

@@ -7,8 +7,8 @@ use lib.Dec.{eqb}
 use Rattle.root.specs.Root.{root}
 use Rattle.refusal.specs.Tests.{_then_, first}
 use Rattle.refusal.proofs.Stops.{numbered, outcome-stop, outcome-go}
-use Rattle.calculator.specs.declared.Rates.{Rates}
-use Rattle.calculator.specs.Calculator.{rateLimits, rateTests}
+use Rattle.rates.specs.declared.Rates.{Rates}
+use Rattle.rates.specs.Rates.{rateLimits, rateTests}
 use Rattle.receipt.specs.Receipt.{refusal, amounts}
 use Rattle.pool.specs.State.{refused, done}
 use Rattle.receipt.specs.declared.Receipt.{Receipt}

@@ -4,7 +4,7 @@ use mathlib.Core.Path.{_≡_, refl, sym, _∙_}
 use native.Mathlib.Omega.{arith}
 use Rattle.refusal.specs.Tests.{_then_, first}
 use Rattle.refusal.proofs.Stops.{turns, first-at, first-none, first-stage, first-past}
-use Rattle.calculator.specs.Calculator.{rateLimits, rateTests}
+use Rattle.rates.specs.Rates.{rateLimits, rateTests}
 use Rattle.pool.specs.Opening.{openingFront, openingTests}
 use borrow.Author.Needs.{needs}
 use Rattle.opening.proofs.opening_number.Statement.{statement}

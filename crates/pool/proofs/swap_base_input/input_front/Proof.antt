@@ -5,7 +5,7 @@ use Prim.Native.Nat.{ℕ}
 use native.Mathlib.Omega.{arith}
 use Rattle.refusal.specs.Tests.{Tests, _then_, first}
 use Rattle.refusal.proofs.Stops.{turns, first-at, first-none, first-stage, first-past}
-use Rattle.calculator.specs.Calculator.{rateLimits, limitTests}
+use Rattle.rates.specs.Rates.{rateLimits, limitTests}
 use Rattle.pool.specs.Swap.{closedTests}
 use Rattle.pool.specs.SwapBaseInput.{inputFront}
 use borrow.Author.Needs.{needs}

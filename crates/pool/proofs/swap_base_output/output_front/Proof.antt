@@ -8,7 +8,7 @@ use lib.Dec.{eqb}
 use Rattle.refusal.specs.Refusal.{RequireViolated}
 use Rattle.refusal.specs.Tests.{Tests, _then_, first}
 use Rattle.refusal.proofs.Stops.{turns, first-at, first-none, first-stage, first-past}
-use Rattle.calculator.specs.Calculator.{rateLimits, limitTests}
+use Rattle.rates.specs.Rates.{rateLimits, limitTests}
 use Rattle.pool.specs.Swap.{closedTests}
 use Rattle.pool.specs.SwapBaseOutput.{outputFront}
 use borrow.Author.Needs.{needs}

@@ -1,11 +1,11 @@
--- `calculator::is_creator_fee_on_input` meets its contract, model by model.
+-- `rates::is_creator_fee_on_input` meets its contract, model by model.
 -- Assumes nothing.
 use mathlib.Core.Path.{sym}
 use mathlib.Core.Bool.{or-false}
 use borrow.Author.Tests.{ne-eqb}
-use Rattle.calculator.specs.Calculator.{onInput}
-use Rattle.calculator.proofs.is_creator_fee_on_input.Statement.{statement}
-use Rattle.calculator.proofs.is_creator_fee_on_input.Tie as tie
+use Rattle.rates.specs.Rates.{onInput}
+use Rattle.rates.proofs.is_creator_fee_on_input.Statement.{statement}
+use Rattle.rates.proofs.is_creator_fee_on_input.Tie as tie
 
 returns : tie.Need-returns
 unfolding onInput

@@ -1,13 +1,13 @@
--- `calculator::rate_number` meets its contract: the rates' limits are one stage, the share's another.
+-- `rates::rate_number` meets its contract: the rates' limits are one stage, the share's another.
 -- Assumes nothing.
 use mathlib.Core.Path.{_≡_, refl, sym, _∙_}
 use native.Mathlib.Omega.{arith}
 use Rattle.refusal.specs.Tests.{first}
 use Rattle.refusal.proofs.Stops.{turns, first-at, first-none, first-stage, first-past}
-use Rattle.calculator.specs.Calculator.{rateLimits, limitTests, rateTests}
+use Rattle.rates.specs.Rates.{rateLimits, limitTests, rateTests}
 use borrow.Author.Needs.{needs}
-use Rattle.calculator.proofs.rate_number.Statement.{statement}
-use Rattle.calculator.proofs.rate_number.Tie as tie
+use Rattle.rates.proofs.rate_number.Statement.{statement}
+use Rattle.rates.proofs.rate_number.Tie as tie
 
 limit-number-requires : tie.Need-limit-number-requires
 limit-number-requires c κs = search needs

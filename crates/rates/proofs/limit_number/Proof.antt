@@ -1,10 +1,10 @@
--- `calculator::limit_number` meets its contract, test by test.
+-- `rates::limit_number` meets its contract, test by test.
 -- Assumes nothing.
 use native.Mathlib.Omega.{arith}
 use Rattle.refusal.proofs.Stops.{turns, first-at, first-none}
-use Rattle.calculator.specs.Calculator.{rateLimits}
-use Rattle.calculator.proofs.limit_number.Statement.{statement}
-use Rattle.calculator.proofs.limit_number.Tie as tie
+use Rattle.rates.specs.Rates.{rateLimits}
+use Rattle.rates.proofs.limit_number.Statement.{statement}
+use Rattle.rates.proofs.limit_number.Tie as tie
 
 returns : tie.Need-returns
 unfolding rateLimits
