@@ -1,10 +1,10 @@
-// One call of a list, on a pool and its ring.
-use crate::call::Call;
+// One call of a list (`history`), on a pool and its ring: by this demand 3 speaks of the code.
+use history::call::Call;
 use pool::state::After;
 use pool::state::Pool;
 ghost use mathlib.Core.Path.{_≡_};
 ghost use Rattle.pool.specs.State.{done};
 ghost use Rattle.history.specs.Run.{stateOf, next};
 
 // Only the swaps are lent the ring's entries. What this ensures is one step of demand 3's runs.
 pub fn apply(pool: Pool, entries: &mut [u64; 500], call: Call) -> After

@@ -1,10 +1,10 @@
--- `history::apply::apply` meets its contract: one line for each kind of call.
+-- `apply::apply` meets its contract: one line for each kind of call.
 -- Assumes nothing.
 use mathlib.Core.Path.{refl}
 use Rattle.history.specs.Run.{next}
 use borrow.Author.Needs.{needs}
-use Rattle.history.proofs.apply.apply.Statement.{statement}
-use Rattle.history.proofs.apply.apply.Tie as tie
+use Rattle.apply.proofs.apply.Statement.{statement}
+use Rattle.apply.proofs.apply.Tie as tie
 
 enum-known-call : tie.Need-enum-known-call
 enum-known-call c = search needs
