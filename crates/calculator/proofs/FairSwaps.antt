@@ -6,7 +6,7 @@ use mathlib.Core.Bool.{Bool, true, false, cond}
 use native.Mathlib.Omega.{arith}
 use native.Mathlib.Nat.{mul-le-mul-left, add-zero}
 use lib.Dec.{eqb}
-use Rattle.wide.specs.Division.{ceilDiv}
+use Rattle.divide.specs.Division.{ceilDiv}
 use Rattle.math.proofs.Rounding.{ceil-ge, share-floor-le, share-ceil-le, shares-le}
 use Rattle.math.proofs.Curve.{out-le, product-kept-by-input, product-kept-by-output}
 use Rattle.rates.specs.declared.Rates.{Rates}

@@ -11,7 +11,7 @@ use lib.Dec.{eqb}
 use borrow.Author.Tests.{lt-ltb, le-ltb, lt-leb, ne-eqb}
 use types.Run.{OneOf}
 use denote.Enum.Declared.{tagOf}
-use Rattle.wide.specs.Division.{ceilDiv}
+use Rattle.divide.specs.Division.{ceilDiv}
 use Rattle.math.specs.declared.ratio.Quotient.{Quotient}
 use Rattle.math.specs.declared.ratio.Quotient.the-variants as Q
 use Rattle.math.proofs.ratio.Quotient.{the-type}

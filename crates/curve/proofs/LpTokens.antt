@@ -9,10 +9,10 @@ use native.Mathlib.Nat.{eq-zero-or-pos, pos-of-ne-zero}
 use native.Mathlib.Omega.{arith}
 use lib.Dec.{eqb}
 use borrow.Author.Tests.{eqb-true, eqb-false, eq-eqb, ne-eqb}
-use Rattle.wide.specs.declared.divide.Divided.{Divided}
+use Rattle.divide.specs.declared.Divided.{Divided}
 use Rattle.wide.specs.declared.U128.{U128}
 use Rattle.wide.specs.Value.{value}
-use Rattle.wide.specs.Division.{ceilDiv, divided}
+use Rattle.divide.specs.Division.{ceilDiv, divided}
 use Rattle.math.specs.declared.ratio.Parts.{Parts}
 use Rattle.math.specs.declared.ratio.Parts.the-variants as P
 use Rattle.math.specs.Ratio.{partsOf}

@@ -1,12 +1,12 @@
 // The constant product curve: x × y does not fall. x is the net of the token that goes in, y of the one that comes out.
 use answer::Answer;
 use answer::from_quotient;
+use divide::Divided;
+use divide::div_rem;
 use math::ratio::mul_div_ceil;
 use math::ratio::mul_div_sum;
 use refusal::PANIC;
 use refusal::ZERO_TRADING_TOKENS;
-use wide::divide::Divided;
-use wide::divide::div_rem;
 use wide::widening_mul;
 ghost use mathlib.Core.Path.{_≡_};
 ghost use Rattle.curve.specs.ConstantProduct.{swapBaseInputWithoutFees, swapBaseOutputWithoutFees, lpPart, lpTokensToTradingTokens};

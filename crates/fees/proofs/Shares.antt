@@ -5,7 +5,7 @@ use mathlib.Core.List.{[], _∷_}
 use Prim.Native.Nat.{ℕ, _+_, _-_, _*_, _/_, _^_, _<_, _≤_}
 use native.Mathlib.Omega.{arith}
 use borrow.Author.Tests.{ne-eqb}
-use Rattle.wide.specs.Division.{ceilDiv}
+use Rattle.divide.specs.Division.{ceilDiv}
 use Rattle.math.specs.Ratio.{ceilOf, floorOf}
 use Rattle.math.proofs.Rounding.{share-floor-le, share-ceil-le}
 use Rattle.refusal.specs.Refusal.{ZeroTradingTokens, MathOverflow}

@@ -8,7 +8,7 @@ use native.Mathlib.Nat.{pos-of-ne-zero, mul-le-mul-right, mul-le-mul, le-trans, 
 use borrow.Author.Needs.{needs}
 use borrow.Author.Tests.{ltb-false, eqb-false}
 use lib.Dec.{eqb}
-use Rattle.wide.specs.Division.{ceilDiv}
+use Rattle.divide.specs.Division.{ceilDiv}
 use Rattle.math.proofs.Rounding.{floor-le, ceil-ge, share-floor-le}
 use Rattle.refusal.specs.Tests.{_then_}
 use Rattle.refusal.proofs.Stops.{Passed}

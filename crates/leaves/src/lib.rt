@@ -1,11 +1,11 @@
 // The arithmetic one function at a time, for the benchmark: each beside what u128 does.
+use divide::price_x32;
 use math::ratio::Quotient;
 use math::ratio::mul_div_ceil;
 use math::ratio::mul_div_floor;
 use math::ratio::mul_div_sum;
 use root::isqrt;
 use wide::U128;
-use wide::divide::price_x32;
 use wide::widening_mul;
 use wide::wrapping_add;
 ghost use mathlib.Core.Path.{_≡_};

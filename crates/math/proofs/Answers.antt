@@ -7,7 +7,7 @@ use native.Mathlib.Nat.{div-lt-iff-lt-mul, le-div-iff-mul-le, eq-zero-or-pos, ne
 use native.Mathlib.Omega.{arith}
 use lib.Dec.{ltb, eqb}
 use borrow.Author.Tests.{lt-ltb, le-ltb, eq-eqb, ne-eqb}
-use Rattle.wide.specs.Division.{divided, ceilDiv}
+use Rattle.divide.specs.Division.{divided, ceilDiv}
 use Rattle.math.specs.declared.ratio.Quotient.{Quotient}
 use Rattle.math.specs.declared.ratio.Quotient.the-variants as Q
 use Rattle.math.specs.declared.ratio.Parts.{Parts}

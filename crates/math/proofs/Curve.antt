@@ -3,7 +3,7 @@ use mathlib.Core.Path.{_≡_, ap}
 use Prim.Native.Nat.{ℕ, _+_, _-_, _*_, _/_, _≤_, _<_}
 use native.Mathlib.Nat.{div-le-of-le-mul, le-div-iff-mul-le, mul-le-mul-right, le-add-left}
 use native.Mathlib.Omega.{arith}
-use Rattle.wide.specs.Division.{ceilDiv}
+use Rattle.divide.specs.Division.{ceilDiv}
 use Rattle.math.proofs.Rounding.{floor-le, ceil-ge}
 
 -- by input d: what is given is there

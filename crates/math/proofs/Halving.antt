@@ -4,7 +4,7 @@ use Prim.Native.Nat.{ℕ, _+_, _-_, _*_, _/_, _%_, _^_, _≤_, _<_}
 use native.Mathlib.Nat.{mul-assoc, mul-add, mul-one}
 use native.Mathlib.Omega.{arith}
 use Rattle.wide.specs.Steps.{Divides}
-use Rattle.wide.proofs.Digit.{once-less}
+use Rattle.divide.proofs.Digits.{once-less}
 
 -- the half of two words
 top-bit : (high : ℕ) → high * 2 ^ 63 % 2 ^ 64 ≡ high % 2 * 2 ^ 63

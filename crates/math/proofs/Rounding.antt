@@ -9,9 +9,9 @@ use native.Mathlib.Omega.{arith}
 use native.Mathlib.Decide.{decLt}
 use lib.Arith.{digits-div}
 use borrow.Author.Tests.{lt-ltb, le-ltb, eq-eqb, ne-eqb}
-use Rattle.wide.specs.Division.{ceilDiv}
-use Rattle.wide.proofs.Digit.{once-less}
-use Rattle.wide.proofs.Long.{parted}
+use Rattle.divide.specs.Division.{ceilDiv}
+use Rattle.divide.proofs.Digits.{once-less}
+use Rattle.divide.proofs.Long.{parted}
 use Rattle.math.specs.declared.ratio.Quotient.{Quotient}
 use Rattle.math.specs.declared.ratio.Quotient.the-variants as Q
 use Rattle.math.specs.Ratio.{fit, floorOf, ceilOf}

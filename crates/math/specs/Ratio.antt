@@ -2,7 +2,7 @@
 use mathlib.Core.Bool.{cond}
 use Prim.Native.Nat.{ℕ, _/_, _^_}
 use lib.Dec.{ltb, eqb}
-use Rattle.wide.specs.Division.{divided, ceilDiv}
+use Rattle.divide.specs.Division.{divided, ceilDiv}
 use Rattle.math.specs.declared.ratio.Quotient.{Quotient}
 use Rattle.math.specs.declared.ratio.Quotient.the-variants as Q
 use Rattle.math.specs.declared.ratio.Parts.{Parts}

@@ -1,7 +1,7 @@
 // a * b / d on u64, with no loss: rounded down, rounded up, with the remainder, and by a divisor of 65 bits.
+use divide::Divided;
+use divide::div_rem;
 use wide::U128;
-use wide::divide::Divided;
-use wide::divide::div_rem;
 use wide::widening_mul;
 ghost use mathlib.Core.Path.{_≡_};
 ghost use Prim.Native.Nat.{_+_, _*_, _/_, _<_};

@@ -1,11 +1,11 @@
 // The price ring: 100 entries of a clock and two sums of prices (the original's states/oracle.rs).
+use divide::price_x32;
 use refusal::ACCEPTED;
 use refusal::MATH_OVERFLOW;
 use refusal::PANIC;
 use wide::Product;
 use wide::U128;
 use wide::checked_mul;
-use wide::divide::price_x32;
 use wide::wrapping_add;
 ghost use mathlib.Core.Path.{_≡_};
 ghost use mathlib.Core.Bool.{cond};

@@ -1,6 +1,6 @@
 // Whole square roots (utils/math.rs of the original), by Newton's iteration from above: an opening's supply is the whole root of its product.
+use divide::div_rem;
 use wide::U128;
-use wide::divide::div_rem;
 ghost use mathlib.Core.Path.{_≡_};
 ghost use Rattle.root.specs.Root.{root};
 ghost use Rattle.wide.specs.Value.{value};

@@ -3,8 +3,8 @@ use mathlib.Core.Path.{_≡_, sym, ap, _∙_, subst}
 use Prim.Native.Nat.{ℕ, _+_, _-_, _*_, _/_, _%_, _^_, _≤_, _<_}
 use native.Mathlib.Nat.{mul-le-mul, mul-le-mul-left, le-trans, lt-of-le-of-lt, mod-lt, div-lt-iff-lt-mul, le-div-iff-mul-le}
 use native.Mathlib.Omega.{arith}
-use Rattle.wide.specs.Division.{ceilDiv}
-use Rattle.wide.proofs.Long.{floor-parted}
+use Rattle.divide.specs.Division.{ceilDiv}
+use Rattle.divide.proofs.Long.{floor-parted}
 use Rattle.math.specs.declared.ratio.Quotient.the-variants as Q
 use Rattle.math.specs.Ratio.{ceilOf}
 use Rattle.math.proofs.Rounding.{floor-le, ceil-parted, share-floor-le, share-ceil-le, ceil-fits, ceil-past}

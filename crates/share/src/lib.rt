@@ -2,7 +2,7 @@
 use math::ratio::Quotient;
 ghost use mathlib.Core.Path.{_≡_};
 ghost use Prim.Native.Nat.{_*_, _/_, _^_, _≤_, _<_};
-ghost use Rattle.wide.specs.Division.{ceilDiv};
+ghost use Rattle.divide.specs.Division.{ceilDiv};
 ghost use Rattle.math.specs.Ratio.{ceilOf};
 
 // amount * rate / whole, rounded down: protocol, fund and shared part.

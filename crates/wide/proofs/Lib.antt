@@ -1,4 +1,2 @@
 pub mod Halves
 pub mod Words
-pub mod Digit
-pub mod Long

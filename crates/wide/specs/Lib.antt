@@ -1,3 +1,2 @@
 pub mod Value
-pub mod Division
 pub mod Steps

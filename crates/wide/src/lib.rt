@@ -1,6 +1,4 @@
-// What `u128` does for the Rust, on a number of 128 bits as two u64 halves: products, sums and, in `divide`, quotients.
-pub mod divide;
-
+// What `u128` does for the Rust, on a number of 128 bits as two u64 halves: products and sums. Quotients are crate `divide`.
 ghost use mathlib.Core.Path.{_≡_};
 ghost use Prim.Native.Nat.{_+_, _*_};
 ghost use Rattle.wide.specs.Value.{value, u128Of, productOf};

@@ -11,7 +11,7 @@ use Rattle.leaves.proofs.leaf_price_low.Tie as tie
 
 returns : tie.Need-returns
 unfolding priceLow
-returns c = cc
+returns c = rw (c .if1 .taken)
 
 price-x32-requires : tie.Need-price-x32-requires
 price-x32-requires c κs = search needs
@@ -25,7 +25,7 @@ low-fits c = search needs
 
 returns-2 : tie.Need-returns-2
 unfolding priceLow
-returns-2 c = rw (ne-eqb (c .before .before .args .b) 0 (λ h. omega arith)) (low-half (c .price-x32 .result .high) (c .price-x32 .result .low) _ (c .price-x32 .ensures) (low-fits c))
+returns-2 c = rw (ne-eqb (c .before .before .args .b) 0 (c .before .if1 .left)) (low-half (c .price-x32 .result .high) (c .price-x32 .result .low) _ (c .price-x32 .ensures) (low-fits c))
 
 pub leaf-price-low-spec : {M : Type 1} → statement M
 leaf-price-low-spec = tie.close (tie.spec returns price-x32-requires returns-2)

@@ -16,15 +16,15 @@ enum-told-2 c = search needs
 
 returns : tie.Need-returns
 unfolding orZero
-returns c = cc
+returns c = rw (c .before .quotient .given .1)
 
 returns-2 : tie.Need-returns-2
 unfolding orZero
-returns-2 c = cc
+returns-2 c = rw (c .enum-told .given .1)
 
 returns-3 : tie.Need-returns-3
 unfolding orZero
-returns-3 c = cc
+returns-3 c = rw (c .enum-told2 .given .1)
 
 pub or-zero-spec : {M : Type 1} → statement M
 or-zero-spec =

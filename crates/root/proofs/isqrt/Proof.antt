@@ -5,7 +5,7 @@ use native.Mathlib.Nat.{lt-trans, le-of-lt, lt-of-le-of-lt}
 use native.Mathlib.Omega.{arith}
 use lib.Dec.{lit<}
 use borrow.Author.Needs.{needs}
-use Rattle.wide.specs.declared.divide.Divided.{Divided}
+use Rattle.divide.specs.declared.Divided.{Divided}
 use Rattle.wide.specs.Value.{value}
 use Rattle.wide.proofs.Words.{halves-lt, low-only}
 use Rattle.root.specs.Root.{IsRoot, root}

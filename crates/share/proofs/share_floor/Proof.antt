@@ -1,7 +1,7 @@
 -- `share::share_floor` meets its contract: the quotient and what is left are scaled apart (`floor-parted`).
 use mathlib.Core.Path.{sym}
 use native.Mathlib.Nat.{le-trans}
-use Rattle.wide.proofs.Long.{floor-parted}
+use Rattle.divide.proofs.Long.{floor-parted}
 use Rattle.share.proofs.Shares.{rest-fits, times-fits, floor-sum-fits}
 use borrow.Author.Needs.{needs}
 use Rattle.share.proofs.share_floor.Statement.{statement}

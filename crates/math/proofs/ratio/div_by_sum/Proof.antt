@@ -3,10 +3,10 @@ use mathlib.Core.Path.{_≡_, sym, ap, _∙_, subst}
 use Prim.Native.Nat.{ℕ, _+_, _-_, _/_, _%_, _^_, _≤_, _<_}
 use native.Mathlib.Nat.{le-trans, le-of-lt}
 use native.Mathlib.Omega.{arith}
-use Rattle.wide.specs.declared.divide.Divided.{Divided}
+use Rattle.divide.specs.declared.Divided.{Divided}
 use Rattle.wide.specs.Steps.{Divides}
 use Rattle.wide.specs.Value.{value}
-use Rattle.wide.proofs.Long.{of-divided, quotient-is}
+use Rattle.divide.proofs.Long.{of-divided, quotient-is}
 use Rattle.math.proofs.Halving.{half-words, low-fits, odd-word, even, odd-right, odd-high}
 use borrow.Author.Needs.{needs}
 use Rattle.math.proofs.ratio.div_by_sum.Statement.{statement}

@@ -2,7 +2,7 @@
 use mathlib.Core.Path.{sym, ap, _∙_, subst}
 use Prim.Native.Nat.{ℕ, _*_, _/_, _^_, _≤_, _<_}
 use native.Mathlib.Nat.{pos-of-ne-zero}
-use Rattle.wide.specs.Division.{divided}
+use Rattle.divide.specs.Division.{divided}
 use Rattle.math.specs.declared.ratio.Parts.the-variants as P
 use Rattle.math.proofs.Answers.{parts-none, parts-fits, parts-past, halves-fit, halves-past}
 use borrow.Author.Needs.{needs}

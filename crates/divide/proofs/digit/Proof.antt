@@ -1,11 +1,11 @@
--- `wide::divide::digit` meets its contract: the flags say by how much the estimate is too high (`Digit.antt`).
+-- `divide::digit` meets its contract: the flags say by how much the estimate is too high (`Digits.antt`).
 use Prim.Native.Nat.{ℕ, _+_, _-_, _*_, _/_, _%_, _^_, _≤_, _<_}
 use native.Mathlib.Nat.{lt-trans, lt-of-le-of-lt, le-add-right}
 use native.Mathlib.Omega.{arith}
-use Rattle.wide.proofs.Digit.{rest-lt, taken-lt, flag-le, times-lt, flags-le, flags-done}
+use Rattle.divide.proofs.Digits.{rest-lt, taken-lt, flag-le, times-lt, flags-le, flags-done}
 use borrow.Author.Needs.{needs}
-use Rattle.wide.proofs.divide.digit.Statement.{statement}
-use Rattle.wide.proofs.divide.digit.Tie as tie
+use Rattle.divide.proofs.digit.Statement.{statement}
+use Rattle.divide.proofs.digit.Tie as tie
 
 sum-lt : (c : tie.Start) → c .args .high % (c .args .d / 2 ^ 32) * 2 ^ 32 + c .args .low < 2 ^ 64
 sum-lt c = lt-trans (rest-lt (c .args .high) (c .args .low) (c .args .d) (c .pre .0) (c .pre .1) (c .pre .2)) (c .fits .d .fits)

@@ -1,11 +1,11 @@
--- `wide::divide::price_x32` meets its contract: below 2 ^ 32 by one division, else a / b and what is left of a are scaled apart (`floor-parted`).
+-- `divide::price_x32` meets its contract: below 2 ^ 32 by one division, else a / b and what is left of a are scaled apart (`floor-parted`).
 use mathlib.Core.Path.{sym, ap, _∙_, subst}
 use Prim.Native.Nat.{ℕ, _+_, _*_, _/_, _^_, _<_}
 use native.Mathlib.Nat.{mod-lt}
-use Rattle.wide.proofs.Long.{floor-parted, fraction-lt, point-fits, point-value}
+use Rattle.divide.proofs.Long.{floor-parted, fraction-lt, point-fits, point-value}
 use borrow.Author.Needs.{needs}
-use Rattle.wide.proofs.divide.price_x32.Statement.{statement}
-use Rattle.wide.proofs.divide.price_x32.Tie as tie
+use Rattle.divide.proofs.price_x32.Statement.{statement}
+use Rattle.divide.proofs.price_x32.Tie as tie
 
 mul-t6 : tie.Need-mul-t6
 mul-t6 c = search needs

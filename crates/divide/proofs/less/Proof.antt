@@ -1,8 +1,8 @@
--- `wide::divide::less` meets its contract: the test is the flag.
+-- `divide::less` meets its contract: the test is the flag.
 use mathlib.Core.Logic.{inl, inr}
 use mathlib.Core.Path.{refl}
-use Rattle.wide.proofs.divide.less.Statement.{statement}
-use Rattle.wide.proofs.divide.less.Tie as tie
+use Rattle.divide.proofs.less.Statement.{statement}
+use Rattle.divide.proofs.less.Tie as tie
 
 returns : tie.Need-returns
 returns c = inl (c .if1 .taken, refl)

@@ -1,17 +1,17 @@
--- `wide::divide::div_rem` meets its contract: two digits of the shifted number divided by the shifted divisor (`Long.antt`).
+-- `divide::div_rem` meets its contract: two digits of the shifted number divided by the shifted divisor (`Long.antt`).
 use mathlib.Core.Path.{_≡_, sym, ap, subst}
 use Prim.Native.Nat.{ℕ, _+_, _-_, _*_, _/_, _%_, _^_, _<_}
 use native.Mathlib.Nat.{lt-trans, le-trans, mod-lt, mod-eq-of-lt}
 use native.Mathlib.Omega.{arith}
 use lib.Dec.{lit≤}
 use lib.Pow.{pow-pos, shr-lt}
 use Rattle.wide.specs.Value.{value}
-use Rattle.wide.specs.Division.{divided}
+use Rattle.divide.specs.Division.{divided}
 use Rattle.wide.proofs.Words.{low-only}
-use Rattle.wide.proofs.Long.{both, digit-small, high-lt, high-word, joined, unshifted-quotient, unshifted-remainder}
+use Rattle.divide.proofs.Long.{both, digit-small, high-lt, high-word, joined, unshifted-quotient, unshifted-remainder}
 use borrow.Author.Needs.{needs}
-use Rattle.wide.proofs.divide.div_rem.Statement.{statement}
-use Rattle.wide.proofs.divide.div_rem.Tie as tie
+use Rattle.divide.proofs.div_rem.Statement.{statement}
+use Rattle.divide.proofs.div_rem.Tie as tie
 
 div-t12 : tie.Need-div-t12
 div-t12 c = search needs

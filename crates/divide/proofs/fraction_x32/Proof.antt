@@ -1,10 +1,10 @@
--- `wide::divide::fraction_x32` meets its contract: one digit of the shifted numbers (`fraction`).
+-- `divide::fraction_x32` meets its contract: one digit of the shifted numbers (`fraction`).
 use native.Mathlib.Nat.{le-trans, mod-eq-of-lt}
 use lib.Dec.{lit≤, lit<}
-use Rattle.wide.proofs.Long.{shifted-lt, shifted-word, fraction}
+use Rattle.divide.proofs.Long.{shifted-lt, shifted-word, fraction}
 use borrow.Author.Needs.{needs}
-use Rattle.wide.proofs.divide.fraction_x32.Statement.{statement}
-use Rattle.wide.proofs.divide.fraction_x32.Tie as tie
+use Rattle.divide.proofs.fraction_x32.Statement.{statement}
+use Rattle.divide.proofs.fraction_x32.Tie as tie
 
 norm-shift-requires : tie.Need-norm-shift-requires
 norm-shift-requires c κs = search needs

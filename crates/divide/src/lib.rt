@@ -1,10 +1,10 @@
 // A number of 128 bits divided by a u64, in digits of 32 bits.
-use crate::U128;
+use wide::U128;
 ghost use mathlib.Core.Path.{_≡_};
 ghost use Prim.Native.Nat.{_+_, _*_, _/_, _^_, _≤_, _<_};
 ghost use Rattle.wide.specs.Value.{value};
-ghost use Rattle.wide.specs.Division.{divided, dividedWide};
+ghost use Rattle.divide.specs.Division.{divided, dividedWide};
 ghost use Rattle.wide.specs.Steps.{Divides, Less};
 
 // A quotient that fits a u64, and the remainder.
 pub struct Divided {

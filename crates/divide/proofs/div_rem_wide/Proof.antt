@@ -1,17 +1,17 @@
--- `wide::divide::div_rem_wide` meets its contract: a quotient of 64 bits has no high half; else the high half is divided first, and what it
+-- `divide::div_rem_wide` meets its contract: a quotient of 64 bits has no high half; else the high half is divided first, and what it
 -- leaves is the high half of the rest.
 -- Assumes nothing.
 use mathlib.Core.Path.{_≡_, refl, _∙_, ap}
 use Prim.Native.Nat.{ℕ, _/_, _%_, _^_, _<_}
 use native.Mathlib.Nat.{mod-lt, div-add-mod', div-le-self, lt-of-le-of-lt}
-use Rattle.wide.specs.declared.divide.Divided.{Divided}
+use Rattle.divide.specs.declared.Divided.{Divided}
 use Rattle.wide.specs.Value.{u128Of}
-use Rattle.wide.proofs.Long.{of-divided, quotient-is, remainder-is, wide-divides}
+use Rattle.divide.proofs.Long.{of-divided, quotient-is, remainder-is, wide-divides}
 use Rattle.wide.proofs.Words.{words-are, low-only}
 use native.Mathlib.Omega.{arith}
 use borrow.Author.Needs.{needs}
-use Rattle.wide.proofs.divide.div_rem_wide.Statement.{statement}
-use Rattle.wide.proofs.divide.div_rem_wide.Tie as tie
+use Rattle.divide.proofs.div_rem_wide.Statement.{statement}
+use Rattle.divide.proofs.div_rem_wide.Tie as tie
 
 div-rem-requires : tie.Need-div-rem-requires
 div-rem-requires c κs = search needs

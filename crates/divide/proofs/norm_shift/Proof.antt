@@ -1,12 +1,12 @@
--- `wide::divide::norm_shift` meets its contract: with k the place of the top set bit, the count of leading zeros makes 64 with k + 1.
+-- `divide::norm_shift` meets its contract: with k the place of the top set bit, the count of leading zeros makes 64 with k + 1.
 use mathlib.Core.Path.{_≡_, sym, ap, _∙_, subst}
 use Prim.Native.Nat.{ℕ, suc, _+_, _*_, _^_, _≤_, _<_}
 use native.Mathlib.Nat.{mul-le-mul-right}
 use native.Mathlib.Omega.{arith}
 use lib.Pow.{pow-add, shl-lt}
 use lib.Count.{leadingZeros, leading-top}
-use Rattle.wide.proofs.divide.norm_shift.Statement.{statement}
-use Rattle.wide.proofs.divide.norm_shift.Tie as tie
+use Rattle.divide.proofs.norm_shift.Statement.{statement}
+use Rattle.divide.proofs.norm_shift.Tie as tie
 
 normalized : (a k s : ℕ) → 2 ^ k ≤ a → a < 2 ^ suc k → s + suc k ≡ 64 → (2 ^ 63 ≤ a * 2 ^ s) × (a * 2 ^ s < 2 ^ 64) × (s < 64)
 normalized a k s low high e =

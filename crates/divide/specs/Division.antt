@@ -1,8 +1,8 @@
 -- Quotients, rounded down and up, and remainders.
 use Prim.Native.Nat.{ℕ, _+_, _-_, _/_, _%_}
-use Rattle.wide.specs.declared.divide.Divided.{Divided}
-use Rattle.wide.specs.declared.divide.DividedWide.{DividedWide}
+use Rattle.divide.specs.declared.Divided.{Divided}
+use Rattle.divide.specs.declared.DividedWide.{DividedWide}
 use Rattle.wide.specs.Value.{u128Of}
 
 -- the quotient rounded down, and the remainder
 abbrev pub divided : ℕ → ℕ → Divided

@@ -6,10 +6,10 @@ use native.Mathlib.Nat.{mod-lt, add-mul-div-right, mul-div-mul-right, mul-div-ca
 use native.Mathlib.Omega.{arith}
 use lib.Arith.{digits-div, digits-mod}
 use lib.Pow.{pow-pos, pow-add, shr-shr}
-use Rattle.wide.specs.declared.divide.Divided.{Divided}
-use Rattle.wide.specs.Division.{divided}
+use Rattle.divide.specs.declared.Divided.{Divided}
+use Rattle.divide.specs.Division.{divided}
 use Rattle.wide.specs.Steps.{Divides}
 use Rattle.wide.proofs.Halves.{spread, shl-half}
 
 -- ---- a quotient and a remainder are the only ones
 
