@@ -63,18 +63,18 @@ enum { CP_SWAP_RING_ENTRIES = 100, CP_SWAP_RING_LENGTH = 500 };
 enum {
     CP_SWAP_NUMBER, /* 0: receipts are only written of accepted calls */
     CP_SWAP_KIND,   /* 1 opening, 2 and 3 swaps, 4 deposit, 5 withdrawal, 6 settlement, 7 status */
-    CP_SWAP_DIRECTION,
+    CP_SWAP_DIRECTION, /* of a swap: 0 where token 0 goes in, 1 where token 1 does */
     CP_SWAP_CLOCK,
     CP_SWAP_IN_0, /* paid into the pool */
     CP_SWAP_IN_1,
     CP_SWAP_OUT_0, /* paid out of it */
     CP_SWAP_OUT_1,
-    CP_SWAP_LP,
-    CP_SWAP_TRADE_FEE,
+    CP_SWAP_LP, /* issued by an opening or a deposit, burnt by a withdrawal */
+    CP_SWAP_TRADE_FEE, /* in the token that goes in */
     CP_SWAP_PROTOCOL_FEE, /* protocol and fund fee are parts of the trade fee */
     CP_SWAP_FUND_FEE,
     CP_SWAP_CREATOR_FEE,
-    CP_SWAP_CREATOR_FEE_TOKEN,
+    CP_SWAP_CREATOR_FEE_TOKEN, /* the token of the creator fee, by fee model and direction */
     CP_SWAP_SHARED_0, /* of a settlement: what went to the protocol's counters */
     CP_SWAP_SHARED_1,
     CP_SWAP_RECEIPT_LENGTH

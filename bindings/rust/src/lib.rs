@@ -36,7 +36,7 @@ mod ring;
 
 pub mod plain;
 
-pub use calls::{Direction, FeeModel, Opening, StatusBit};
+pub use calls::{Answer, Direction, FeeModel, Opening, StatusBit};
 pub use day_sheet::{DaySheet, Progress, ROW_LENGTH};
 pub use receipt::Receipt;
 pub use record::{Pool, Rates, RingHead};

@@ -18,7 +18,7 @@ pub struct Receipt {
     pub paid_out: [u64; 2],
     /// LP tokens issued or taken back.
     pub lp: u64,
-    /// The trade fee, of which protocol and fund fee are parts.
+    /// The trade fee, of which protocol and fund fee are parts; in the token that goes in.
     pub trade_fee: u64,
     /// The protocol's part.
     pub protocol_fee: u64,

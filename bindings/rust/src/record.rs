@@ -51,7 +51,7 @@ pub struct Pool {
     pub open_time: u64,
     /// As [`FeeModel`](crate::FeeModel) numbers it.
     pub fee_model: u64,
-    /// 1 where creators' fees are charged, else 0; any other number makes every call refuse.
+    /// 1 where creators' fees are charged, else 0; any other number makes every call refuse but an opening.
     pub enabled: u64,
     /// The rates that the pool was opened with.
     pub rates: Rates,

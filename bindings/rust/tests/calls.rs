@@ -120,6 +120,30 @@ fn deposits_and_withdrawals_round_for_the_pool() {
     refuses(Refusal::RequireViolated, |pool, ring| pool.withdraw(ring, 3, 2, [0, 0]));
 }
 
+/// A deposit of 3 takes 2 and 6, a withdrawal of 3 gives 1 and 6; one token's limit alone can refuse.
+#[test]
+fn deposits_and_withdrawals_keep_the_limit_of_each_token() {
+    let (mut pool, mut ring) = opened();
+    assert!(pool.deposit(&mut ring, 3, [2, 6]).is_ok());
+    let (mut pool, mut ring) = opened();
+    assert!(pool.withdraw(&mut ring, 3, 3, [1, 6]).is_ok());
+    for maximums in [[1, 6], [2, 5]] {
+        refuses(Refusal::ExceededSlippage, |pool, ring| pool.deposit(ring, 3, maximums));
+    }
+    for minimums in [[2, 6], [1, 7]] {
+        refuses(Refusal::ExceededSlippage, |pool, ring| pool.withdraw(ring, 3, 3, minimums));
+    }
+}
+
+#[test]
+fn a_record_that_is_no_pool_is_refused() {
+    let (mut pool, mut ring) = opened();
+    pool.enabled = 2;
+    assert_eq!(pool.nets(), Err(Refusal::InvalidInput));
+    assert_eq!(pool.set_status(&mut ring, StatusBit::Swaps, true), Err(Refusal::InvalidInput));
+    assert_eq!(pool.open(&mut ring, &opening()).map(|receipt| receipt.lp), Ok(2_000_000));
+}
+
 #[test]
 fn a_settlement_pays_the_creators() {
     let rates = Rates { creator: 1_000, ..RATES };

@@ -47,11 +47,11 @@ unfoldable pub curveOutput : Bool → ℕ → ℕ → ℕ
 curveOutput true creatorRate amount = amount
 curveOutput false creatorRate amount = preFee amount creatorRate
 
--- the input before fees, which is what the curve asks
+-- the input after its fees, which is what the curve asks
 unfoldable pub curveInput : Bool → ℕ → ℕ → ℕ → ℕ → ℕ
 curveInput feeOnInput creatorRate netIn netOut amount = swapIn netIn netOut (curveOutput feeOnInput creatorRate amount)
 
--- what an output asks for `asked` before fees: fee on input, fee on output
+-- the swap whose input is `asked` after its fees: fee on input, fee on output
 unfoldable pub withFees : Bool → Rates → ℕ → ℕ → ℕ → SwapResult
 withFees true rates creatorRate asked amount =
     let input = preFee asked (rates .trade + creatorRate) in

@@ -1,4 +1,4 @@
--- What the private steps of this crate answer. No public definition rests on these.
+-- What the steps of this crate answer. No definition of document 01's rests on these.
 use Prim.Native.Nat.{ℕ, _+_}
 use mathlib.Core.Bool.{Bool, cond, _||_}
 use mathlib.Core.List.{[], _∷_}

@@ -37,7 +37,7 @@ fn mul_div(a: u64, b: u64, d: u64) -> Parts
     }
 }
 
-// a * b / d, rounded down: the LP's part of a net, the creator's part of a fee.
+// a * b / d, rounded down: the creator's part of a fee.
 pub fn mul_div_floor(a: u64, b: u64, d: u64) -> Quotient
     ensures { λ r. ⌜ r ≡ floorOf (a * b) d ⌝ }
 {

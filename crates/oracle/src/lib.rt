@@ -124,7 +124,7 @@ fn first_use(index: u64, clock: u64) -> Update
     )
 }
 
-// One token's sum after some seconds at its price, which is not reckoned where no seconds have passed.
+// One token's sum after some seconds at its price.
 fn add_price(sum: U128, net: u64, other: u64, seconds: u64) -> Product
     ensures { λ r. ⌜ r ≡ sumAfter (value sum) (price net other) seconds ⌝ }
 {

@@ -1,4 +1,4 @@
-// Whole square roots (utils/math.rs of the original), by Newton's iteration from above: an opening's supply is the whole root of its product.
+// Whole square roots by Newton's iteration from above: an opening's supply is the whole root of its product.
 use divide::div_rem;
 use wide::U128;
 ghost use mathlib.Core.Path.{_≡_};

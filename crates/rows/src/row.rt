@@ -8,7 +8,8 @@ ghost use lib.ListN.{length};
 ghost use Rattle.columns.specs.Column.{hasRoom};
 ghost use Rattle.rows.specs.Row.{columnAt, readRow, writeRow, withRow};
 
-const ROW_BYTES: usize = 103;
+// A row that is written, with its newline. Of a row that is begun no more bytes are kept.
+pub const ROW_BYTES: usize = 103;
 
 pub enum Row {
     Unreadable,

@@ -1,4 +1,4 @@
-// Parts of an amount at a rate, as rate / whole of it, by utils/math.rs of the original. The whole has at most 33 bits, so u64 is wide enough throughout.
+// Parts of an amount at a rate, as rate / whole of it (floor_div and ceil_div of the original's curve/fees.rs). The whole has at most 33 bits, so u64 is wide enough throughout.
 use math::ratio::Quotient;
 ghost use mathlib.Core.Path.{_≡_};
 ghost use Prim.Native.Nat.{_*_, _/_, _^_, _≤_, _<_};

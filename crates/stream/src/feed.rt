@@ -2,6 +2,7 @@
 use opening::zero;
 use pool::state::Pool;
 use rates::Rates;
+use rows::row::ROW_BYTES;
 use rows::row::read_row;
 use rows::row::write_row_at;
 use sheet::turn::Sheet;
@@ -18,9 +19,6 @@ ghost use Rattle.sheet.specs.Sheet.{sheetOf, emptySheet, perform};
 ghost use Rattle.stream.specs.Pieces.{kept, feed, finish, holding, leftBy, leftOf, leftAtEnd, endOf};
 ghost use Rattle.stream.specs.Pieces.{Fed as FedPiece};
 ghost use Rattle.stream.specs.Stages.{lineLength, Answered, Midway, Through};
-
-// A row that is written has so many bytes, and of a row that is begun no more are kept.
-const ROW_BYTES: usize = 103;
 
 // The sheet between two pieces, and how many bytes are held of a row that is begun.
 pub struct Going {

@@ -1,4 +1,4 @@
-// The pool's record, its receipt and the ring as plain numbers, in a fixed order.
+// The pool's record with its ring's head, and its receipt, as plain numbers, in a fixed order.
 use accounting::FeeCounters;
 use oracle::Ring;
 use pool::state::Pool;
