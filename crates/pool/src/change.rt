@@ -29,8 +29,8 @@ fn rounding(is_deposit: bool) -> RoundDirection
 }
 
 // The tests before the nets', each call's own.
-fn front_number(pool: Pool, is_deposit: bool, lp: u64, owned: u64) -> u64
-    ensures { λ r. ⌜ r ≡ first (changeFront «is_deposit» pool lp owned) ⌝ }
+fn front_number(pool: Pool, is_deposit: bool, lp: LpTokens, owned: LpTokens) -> u64
+    ensures { λ r. ⌜ r ≡ first (changeFront «is_deposit» pool (lp .0) (owned .0)) ⌝ }
 {
     if is_deposit {
         deposit_front(pool, lp)
@@ -44,16 +44,16 @@ impl Pool {
     fn change_at(
         self,
         is_deposit: bool,
-        lp: u64,
-        net0: u64,
-        net1: u64,
-        amount0: u64,
-        amount1: u64,
-        limit0: u64,
-        limit1: u64,
+        lp: LpTokens,
+        net0: TradingTokens,
+        net1: TradingTokens,
+        amount0: TradingTokens,
+        amount1: TradingTokens,
+        limit0: TradingTokens,
+        limit1: TradingTokens,
     ) -> After
-        requires { ⌜ (net0 ≤ self .vault0) × (net1 ≤ self .vault1) ⌝ }
-        ensures { λ r. ⌜ r ≡ changeAt «is_deposit» net0 net1 amount0 amount1 self lp limit0 limit1 ⌝ }
+        requires { ⌜ (net0 .0 ≤ self .vault0) × (net1 .0 ≤ self .vault1) ⌝ }
+        ensures { λ r. ⌜ r ≡ changeAt «is_deposit» (net0 .0) (net1 .0) (amount0 .0) (amount1 .0) self (lp .0) (limit0 .0) (limit1 .0) ⌝ }
     {
         if is_deposit {
             return self.deposit_at(lp, amount0, amount1, limit0, limit1);
@@ -74,7 +74,7 @@ impl Pool {
     ) -> After
         ensures { λ r. ⌜ r ≡ changeOf «is_deposit» self (lp .0) (owned .0) (limit0 .0) (limit1 .0) ⌝ }
     {
-        let number = front_number(self, is_deposit, lp.0, owned.0);
+        let number = front_number(self, is_deposit, lp, owned);
         if number != ACCEPTED {
             return self.refuse(number);
         }
@@ -82,25 +82,23 @@ impl Pool {
         let direction = rounding(is_deposit);
         match self.nets() {
             Nets::Refused(number) => self.refuse(number),
-            Nets::Of(net0, net1) => match token_amounts(
-                lp,
-                supply,
-                TradingTokens(net0),
-                TradingTokens(net1),
-                direction,
-            ) {
-                TradingTokenResult::Refused(number) => self.refuse(number),
-                TradingTokenResult::Amounts(amount0, amount1) => self.change_at(
-                    is_deposit,
-                    lp.0,
-                    net0,
-                    net1,
-                    amount0.0,
-                    amount1.0,
-                    limit0.0,
-                    limit1.0,
-                ),
-            },
+            Nets::Of(net0, net1) => {
+                let net0 = TradingTokens(net0);
+                let net1 = TradingTokens(net1);
+                match token_amounts(lp, supply, net0, net1, direction) {
+                    TradingTokenResult::Refused(number) => self.refuse(number),
+                    TradingTokenResult::Amounts(amount0, amount1) => self.change_at(
+                        is_deposit,
+                        lp,
+                        net0,
+                        net1,
+                        amount0,
+                        amount1,
+                        limit0,
+                        limit1,
+                    ),
+                }
+            }
         }
     }
 }

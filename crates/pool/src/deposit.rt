@@ -16,11 +16,11 @@ ghost use Rattle.pool.specs.State.{decided};
 ghost use Rattle.pool.specs.Liquidity.{depositFront, depositLast, deposited, deposit};
 
 // lp 0, 10; bit 0 set, 1; or 0.
-pub(crate) fn deposit_front(pool: Pool, lp: u64) -> u64
-    ensures { λ r. ⌜ r ≡ first (depositFront pool lp) ⌝ }
+pub(crate) fn deposit_front(pool: Pool, lp: LpTokens) -> u64
+    ensures { λ r. ⌜ r ≡ first (depositFront pool (lp .0)) ⌝ }
 {
     let status = pool.status;
-    if lp == 0 {
+    if lp.0 == 0 {
         return REQUIRE_VIOLATED;
     }
     if status % 2 == 1 {
@@ -32,30 +32,30 @@ pub(crate) fn deposit_front(pool: Pool, lp: u64) -> u64
 // Above a maximum, 2; vault 8; supply past u64, 11; or 0.
 fn deposit_last(
     pool: Pool,
-    lp: u64,
-    amount0: u64,
-    amount1: u64,
-    maximum0: u64,
-    maximum1: u64,
+    lp: LpTokens,
+    amount0: TradingTokens,
+    amount1: TradingTokens,
+    maximum0: TradingTokens,
+    maximum1: TradingTokens,
 ) -> u64
-    ensures { λ r. ⌜ r ≡ first (depositLast amount0 amount1 pool lp maximum0 maximum1) ⌝ }
+    ensures { λ r. ⌜ r ≡ first (depositLast (amount0 .0) (amount1 .0) pool (lp .0) (maximum0 .0) (maximum1 .0)) ⌝ }
 {
     let vault0 = pool.vault0;
     let vault1 = pool.vault1;
     let supply = pool.supply;
-    if amount0 > maximum0 {
+    if amount0.0 > maximum0.0 {
         return EXCEEDED_SLIPPAGE;
     }
-    if amount1 > maximum1 {
+    if amount1.0 > maximum1.0 {
         return EXCEEDED_SLIPPAGE;
     }
-    if amount0 > u64::MAX - vault0 {
+    if amount0.0 > u64::MAX - vault0 {
         return MATH_OVERFLOW;
     }
-    if amount1 > u64::MAX - vault1 {
+    if amount1.0 > u64::MAX - vault1 {
         return MATH_OVERFLOW;
     }
-    if lp > u64::MAX - supply {
+    if lp.0 > u64::MAX - supply {
         return PANIC;
     }
     ACCEPTED
@@ -65,13 +65,13 @@ impl Pool {
     // The amounts are known: the booking, or its refusal.
     pub(crate) fn deposit_at(
         self,
-        lp: u64,
-        amount0: u64,
-        amount1: u64,
-        maximum0: u64,
-        maximum1: u64,
+        lp: LpTokens,
+        amount0: TradingTokens,
+        amount1: TradingTokens,
+        maximum0: TradingTokens,
+        maximum1: TradingTokens,
     ) -> After
-        ensures { λ r. ⌜ r ≡ decided (depositLast amount0 amount1 self lp maximum0 maximum1) self (deposited amount0 amount1 self lp) ⌝ }
+        ensures { λ r. ⌜ r ≡ decided (depositLast (amount0 .0) (amount1 .0) self (lp .0) (maximum0 .0) (maximum1 .0)) self (deposited (amount0 .0) (amount1 .0) self (lp .0)) ⌝ }
     {
         let number = deposit_last(self, lp, amount0, amount1, maximum0, maximum1);
         if number != ACCEPTED {
@@ -80,12 +80,12 @@ impl Pool {
         let vault0 = self.vault0;
         let vault1 = self.vault1;
         let supply = self.supply;
-        let receipt = amounts_receipt(4, amount0, amount1, 0, 0, lp);
+        let receipt = amounts_receipt(4, amount0.0, amount1.0, 0, 0, lp.0);
         After {
             pool: Pool {
-                vault0: vault0 + amount0,
-                vault1: vault1 + amount1,
-                supply: supply + lp,
+                vault0: vault0 + amount0.0,
+                vault1: vault1 + amount1.0,
+                supply: supply + lp.0,
                 ..self
             },
             receipt,

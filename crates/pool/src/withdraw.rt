@@ -16,14 +16,14 @@ ghost use Rattle.pool.specs.State.{decided};
 ghost use Rattle.pool.specs.Liquidity.{withdrawFront, withdrawLast, withdrawn, withdraw};
 
 // lp 0 or above the owner's, 10; bit 1, 1; or 0.
-pub(crate) fn withdraw_front(pool: Pool, lp: u64, owned: u64) -> u64
-    ensures { λ r. ⌜ r ≡ first (withdrawFront pool lp owned) ⌝ }
+pub(crate) fn withdraw_front(pool: Pool, lp: LpTokens, owned: LpTokens) -> u64
+    ensures { λ r. ⌜ r ≡ first (withdrawFront pool (lp .0) (owned .0)) ⌝ }
 {
     let status = pool.status;
-    if lp == 0 {
+    if lp.0 == 0 {
         return REQUIRE_VIOLATED;
     }
-    if lp > owned {
+    if lp.0 > owned.0 {
         return REQUIRE_VIOLATED;
     }
     if status / 2 % 2 == 1 {
@@ -33,41 +33,48 @@ pub(crate) fn withdraw_front(pool: Pool, lp: u64, owned: u64) -> u64
 }
 
 // Below a minimum, 2; lp above supply, 11; or 0.
-fn withdraw_last(pool: Pool, lp: u64, paid0: u64, paid1: u64, minimum0: u64, minimum1: u64) -> u64
-    ensures { λ r. ⌜ r ≡ first (withdrawLast paid0 paid1 pool lp minimum0 minimum1) ⌝ }
+fn withdraw_last(
+    pool: Pool,
+    lp: LpTokens,
+    paid0: TradingTokens,
+    paid1: TradingTokens,
+    minimum0: TradingTokens,
+    minimum1: TradingTokens,
+) -> u64
+    ensures { λ r. ⌜ r ≡ first (withdrawLast (paid0 .0) (paid1 .0) pool (lp .0) (minimum0 .0) (minimum1 .0)) ⌝ }
 {
     let supply = pool.supply;
-    if paid0 < minimum0 {
+    if paid0.0 < minimum0.0 {
         return EXCEEDED_SLIPPAGE;
     }
-    if paid1 < minimum1 {
+    if paid1.0 < minimum1.0 {
         return EXCEEDED_SLIPPAGE;
     }
-    if lp > supply {
+    if lp.0 > supply {
         return PANIC;
     }
     ACCEPTED
 }
 
 // Amounts are capped at the nets.
-pub(crate) fn capped(net: u64, amount: u64) -> u64
-    ensures { λ r. ⌜ r ≡ min net amount ⌝ }
+pub(crate) fn capped(net: TradingTokens, amount: TradingTokens) -> TradingTokens
+    ensures { λ r. ⌜ r .0 ≡ min (net .0) (amount .0) ⌝ }
 {
-    if net <= amount { net } else { amount }
+    if net.0 <= amount.0 { net } else { amount }
 }
 
 impl Pool {
     // The amounts are known: the booking, or its refusal.
     pub(crate) fn withdraw_at(
         self,
-        lp: u64,
-        paid0: u64,
-        paid1: u64,
-        minimum0: u64,
-        minimum1: u64,
+        lp: LpTokens,
+        paid0: TradingTokens,
+        paid1: TradingTokens,
+        minimum0: TradingTokens,
+        minimum1: TradingTokens,
     ) -> After
-        requires { ⌜ (paid0 ≤ self .vault0) × (paid1 ≤ self .vault1) ⌝ }
-        ensures { λ r. ⌜ r ≡ decided (withdrawLast paid0 paid1 self lp minimum0 minimum1) self (withdrawn paid0 paid1 self lp) ⌝ }
+        requires { ⌜ (paid0 .0 ≤ self .vault0) × (paid1 .0 ≤ self .vault1) ⌝ }
+        ensures { λ r. ⌜ r ≡ decided (withdrawLast (paid0 .0) (paid1 .0) self (lp .0) (minimum0 .0) (minimum1 .0)) self (withdrawn (paid0 .0) (paid1 .0) self (lp .0)) ⌝ }
     {
         let number = withdraw_last(self, lp, paid0, paid1, minimum0, minimum1);
         if number != ACCEPTED {
@@ -76,12 +83,12 @@ impl Pool {
         let vault0 = self.vault0;
         let vault1 = self.vault1;
         let supply = self.supply;
-        let receipt = amounts_receipt(5, 0, 0, paid0, paid1, lp);
+        let receipt = amounts_receipt(5, 0, 0, paid0.0, paid1.0, lp.0);
         After {
             pool: Pool {
-                vault0: vault0 - paid0,
-                vault1: vault1 - paid1,
-                supply: supply - lp,
+                vault0: vault0 - paid0.0,
+                vault1: vault1 - paid1.0,
+                supply: supply - lp.0,
                 ..self
             },
             receipt,

@@ -29,7 +29,7 @@ returns-2 c =
     let a = k .before .args in
     rw (k .if1 .left)
     (c .withdraw-at .ensures
-    ∙ capped-last (a .self) (a .lp) (a .limit0) (a .limit1) (a .net0) (a .net1) (a .amount0) (a .amount1) _ _
+    ∙ capped-last (a .self) (a .lp .0) (a .limit0 .0) (a .limit1 .0) (a .net0 .0) (a .net1 .0) (a .amount0 .0) (a .amount1 .0) _ _
     (c .before .before .capped .ensures)
     (c .before .capped2 .ensures))
 

@@ -28,22 +28,22 @@ amounts-receipt-requires c κs = search needs
 rooms :
     (c : tie.Else1)
     → let a = c .before .before .args in
-    (a .self .vault0 + a .amount0 ≤ U64) × (a .self .vault1 + a .amount1 ≤ U64) × (a .self .supply + a .lp ≤ U64)
+    (a .self .vault0 + a .amount0 .0 ≤ U64) × (a .self .vault1 + a .amount1 .0 ≤ U64) × (a .self .supply + a .lp .0 ≤ U64)
 rooms c = deposit-rooms _ _ _ _ _ _ _ (c .before .deposit-last .ensures) (c .if1 .left)
 
 add-t13 : tie.Need-add-t13
-add-t13 c = omega (arith, rooms (c .before))
+add-t13 c = omega (arith, rooms (c .before .before))
 
 add-t14 : tie.Need-add-t14
-add-t14 c = omega (arith, rooms (c .before))
+add-t14 c = omega (arith, rooms (c .before .before .before))
 
 add-t15 : tie.Need-add-t15
-add-t15 c = omega (arith, rooms (c .before))
+add-t15 c = omega (arith, rooms (c .before .before .before .before))
 
 returns-2 : tie.Need-returns-2
 unfolding withBooks depositLast
 returns-2 c =
-    let k = c .before .before .before in
+    let k = c .before .before .before .before .before .before in
     receipted (k .amounts-receipt .ensures) (outcome-go _ _ _ _ refl (k .before .before .deposit-last .ensures) (k .before .if1 .left))
 
 pub deposit-at-spec : {M : Type 1} → statement M

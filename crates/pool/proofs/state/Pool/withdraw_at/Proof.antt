@@ -1,7 +1,6 @@
 -- `pool::state::Pool::withdraw_at` meets its contract.
 -- Assumes nothing.
 use mathlib.Core.Path.{refl, _∙_}
-use native.Mathlib.Omega.{arith}
 use Rattle.refusal.proofs.Stops.{outcome-stop, outcome-go}
 use Rattle.pool.specs.State.{withBooks}
 use Rattle.pool.specs.Liquidity.{withdrawLast}
@@ -29,12 +28,14 @@ sub-t14 : tie.Need-sub-t14
 sub-t14 c = search needs
 
 sub-t15 : tie.Need-sub-t15
-sub-t15 c = omega (arith, withdraw-covered _ _ _ _ _ _ _ (c .before .before .withdraw-last .ensures) (c .before .if1 .left))
+sub-t15 c =
+    let k = c .before .before .before .before in
+    withdraw-covered _ _ _ _ _ _ _ (k .before .withdraw-last .ensures) (k .if1 .left)
 
 returns-2 : tie.Need-returns-2
 unfolding withBooks withdrawLast
 returns-2 c =
-    let k = c .before .before .before in
+    let k = c .before .before .before .before .before .before in
     receipted (k .amounts-receipt .ensures) (outcome-go _ _ _ _ refl (k .before .before .withdraw-last .ensures) (k .before .if1 .left))
 
 pub withdraw-at-spec : {M : Type 1} → statement M
