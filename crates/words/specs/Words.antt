@@ -47,6 +47,26 @@ poolOf w = record {
   ring = record { used = eqb (at w 18) 1; index = at w 19; mark = at w 20 };
 }
 
+abbrev pub receiptOf : List ℕ → Receipt
+receiptOf w = record {
+  number = at w 0;
+  kind = at w 1;
+  direction = at w 2;
+  clock = at w 3;
+  in0 = at w 4;
+  in1 = at w 5;
+  out0 = at w 6;
+  out1 = at w 7;
+  lp = at w 8;
+  «trade_fee» = at w 9;
+  «protocol_fee» = at w 10;
+  «fund_fee» = at w 11;
+  «creator_fee» = at w 12;
+  «creator_fee_token» = at w 13;
+  shared0 = at w 14;
+  shared1 = at w 15;
+}
+
 -- Whether a row begins with these numbers.
 unfoldable pub beginsWith : List ℕ → List ℕ → Bool
 beginsWith row [] = true

@@ -7,7 +7,7 @@ use receipt::Receipt;
 ghost use mathlib.Core.Path.{_≡_};
 ghost use mathlib.Core.Bool.{cond};
 ghost use lib.ListN.{drop};
-ghost use Rattle.words.specs.Words.{poolWords, receiptWords, ratesOf, poolOf, beginsWith};
+ghost use Rattle.words.specs.Words.{poolWords, receiptWords, ratesOf, poolOf, receiptOf, beginsWith};
 
 // A flag as a number.
 fn word(flag: bool) -> u64
@@ -116,6 +116,30 @@ pub fn pool_of(w: [u64; 21]) -> Pool
             index: w[19],
             mark: w[20],
         },
+    }
+}
+
+// The receipt of 16 numbers.
+pub fn receipt_of(w: [u64; 16]) -> Receipt
+    ensures { λ r. ⌜ r ≡ receiptOf w ⌝ }
+{
+    Receipt {
+        number: w[0],
+        kind: w[1],
+        direction: w[2],
+        clock: w[3],
+        in0: w[4],
+        in1: w[5],
+        out0: w[6],
+        out1: w[7],
+        lp: w[8],
+        trade_fee: w[9],
+        protocol_fee: w[10],
+        fund_fee: w[11],
+        creator_fee: w[12],
+        creator_fee_token: w[13],
+        shared0: w[14],
+        shared1: w[15],
     }
 }
 
