@@ -1,6 +1,5 @@
 /*
- * A constant-product token pool over plain memory, x86-64 Linux. The calls are in libcp_swap.a, the
- * day sheet is in libcp_day_sheet.a; either can be linked alone, and both together.
+ * A constant-product token pool over plain memory: libcp_swap.a, x86-64 Linux.
  *
  * The caller owns three arrays: the pool's record, the ring of its prices and a receipt. A call
  * answers 0 when it is accepted; then the three hold what the call gives. Any other answer is the
@@ -9,8 +8,8 @@
  * for, and answers in rows: see the end of this file.
  *
  * The arrays must be of the lengths below, may not overlap, and are only used during the call. The
- * libraries keep nothing, allocate nothing and lock nothing: calls on different arrays may run at the
- * same time.
+ * library keeps nothing, allocates nothing and locks nothing: calls on different arrays may run at
+ * the same time.
  */
 #ifndef CP_SWAP_H
 #define CP_SWAP_H
@@ -122,7 +121,7 @@ enum { CP_SWAP_0_FOR_1 = 0, CP_SWAP_1_FOR_0 = 1 };
 enum { CP_SWAP_DEPOSITS = 0, CP_SWAP_WITHDRAWALS = 1, CP_SWAP_SWAPS = 2 };
 enum { CP_SWAP_OPEN = 0, CP_SWAP_CLOSED = 1 };
 
-/* ---- the calls: libcp_swap.a */
+/* ---- the calls */
 
 /* A new pool in place of what the memory holds. Rates: trade, protocol, fund, creator, share. */
 uint64_t cp_swap_open(uint64_t pool[21], uint64_t ring[500], uint64_t receipt[16],
@@ -156,7 +155,7 @@ uint64_t cp_swap_set_status(uint64_t pool[21], uint64_t ring[500], uint64_t rece
 /* The vaults less their counters: what the LP tokens are worth together. */
 uint64_t cp_swap_nets(const uint64_t pool[21], uint64_t nets[2]);
 
-/* ---- the day sheet: libcp_day_sheet.a
+/* ---- the day sheet
  *
  * Rows in, a row out for each. A row is a number in 2 columns and five in 20 each, decimal and
  * right-justified, and a newline; numbers that a kind does not use are 0. The kinds:

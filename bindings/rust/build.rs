@@ -1,27 +1,20 @@
-//! Links libcp_swap.a and libcp_day_sheet.a, from the folder that CP_SWAP_LIB names or from the
-//! repository's `target/staticlib`. `bindings/library` builds them.
+//! Links libcp_swap.a, from the folder that CP_SWAP_LIB names or from the repository's
+//! `target/staticlib`. `bindings/library` builds it.
 
 use std::env;
 use std::path::PathBuf;
 
 const VARIABLE: &str = "CP_SWAP_LIB";
 const FROM_HERE: &str = "../../target/staticlib";
-const LIBRARIES: [&str; 2] = ["cp_swap", "cp_day_sheet"];
 
 fn main() {
     let folder = env::var_os(VARIABLE).map_or_else(default_folder, PathBuf::from);
+    let library = folder.join("libcp_swap.a");
+    assert!(library.is_file(), "{} is missing: run bindings/library, or set {VARIABLE}", library.display());
     println!("cargo:rerun-if-env-changed={VARIABLE}");
+    println!("cargo:rerun-if-changed={}", library.display());
     println!("cargo:rustc-link-search=native={}", folder.display());
-    for name in LIBRARIES {
-        let library = folder.join(format!("lib{name}.a"));
-        assert!(
-            library.is_file(),
-            "{} is missing: run bindings/library, or set {VARIABLE}",
-            library.display()
-        );
-        println!("cargo:rerun-if-changed={}", library.display());
-        println!("cargo:rustc-link-lib=static={name}");
-    }
+    println!("cargo:rustc-link-lib=static=cp_swap");
 }
 
 fn default_folder() -> PathBuf {

@@ -1,7 +1,6 @@
 //! A constant-product token pool: its swaps, deposits, withdrawals, settlements, its ring of prices
-//! and its [day sheet](DaySheet). The calls are those of `libcp_swap.a`, the day sheet is that of
-//! `libcp_day_sheet.a`; every function of both is proved to meet its contract. This crate gives them
-//! names and types and adds no rule of its own.
+//! and its [day sheet](DaySheet). The calls are those of `libcp_swap.a`, whose every function is
+//! proved to meet its contract; this crate gives them names and types and adds no rule of its own.
 //!
 //! A call either is accepted, and gives a [`Receipt`], or it is refused with a [`Refusal`] and has
 //! changed nothing. No number makes a call panic.

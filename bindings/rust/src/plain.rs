@@ -1,4 +1,4 @@
-//! The libraries' functions over plain arrays, with any numbers: for callers who keep their pools
+//! The library's functions over plain arrays, with any numbers: for callers who keep their pools
 //! as numbers. Each answers 0, or the number of a [`Refusal`](crate::Refusal) and has written
 //! nothing, the receipt neither.
 //!
@@ -21,7 +21,6 @@ pub type SheetWords = [u64; 6];
 /// A row of a day sheet with its newline.
 pub type RowBytes = [u8; 103];
 
-// libcp_swap.a
 #[rustfmt::skip]
 extern "C" {
     fn cp_swap_open(
@@ -46,11 +45,6 @@ extern "C" {
     fn cp_swap_settle_creator_fee(pool: *mut u64, ring: *mut u64, receipt: *mut u64, share: u64) -> u64;
     fn cp_swap_set_status(pool: *mut u64, ring: *mut u64, receipt: *mut u64, bit: u64, flag: u64) -> u64;
     fn cp_swap_nets(pool: *const u64, nets: *mut u64) -> u64;
-}
-
-// libcp_day_sheet.a
-#[rustfmt::skip]
-extern "C" {
     fn cp_swap_day_sheet(
         pool: *mut u64, ring: *mut u64, sheet: *mut u64, held: *mut u8,
         input: *const u8, input_length: usize, output: *mut u8, output_length: usize, progress: *mut u64,
@@ -60,9 +54,9 @@ extern "C" {
     ) -> u64;
 }
 
-// In each call below the references are to whole arrays of the lengths that the libraries take, or
+// In each call below the references are to whole arrays of the lengths that the library takes, or
 // the length of a slice goes with it; those that are written do not overlap with another, and the
-// libraries use them during the call only.
+// library uses them during the call only.
 
 /// An opening; the terms are fee model, enabled and open time, the rates trade, protocol, fund,
 /// creator and share.

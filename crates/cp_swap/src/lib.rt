@@ -2,24 +2,20 @@
 // receipt, in the order of `words`. The pieces of memory of one call must be separate, aligned for their numbers and of full length:
 // this is taken for granted and not tested.
 // A call returns 0 and writes what it gives, or it returns its refusal's number and writes nothing.
-pub mod calls;
+pub mod day_sheet;
 
-use crate::calls::give;
-use crate::calls::record_number;
-use crate::calls::swap_on;
-use accounting::Nets;
 use curve::constant_product::LpTokens;
 use curve::constant_product::TradingTokens;
 use history::call::Call;
-use opening::open;
-use pool::state::Pool;
-use refusal::ACCEPTED;
-use words::pool_of;
-use words::pool_words;
+use memory::calls::change_on;
+use memory::calls::nets_on;
+use memory::calls::open_on;
+use memory::calls::set_status_on;
+use memory::calls::settle_on;
+use memory::calls::swap_on;
 use words::rates_of;
-use words::receipt_words;
 ghost use mathlib.Core.Path.{_≡_};
-ghost use Rattle.cp_swap.specs.Memory.{memory, calledOn, openedOn, netsMemory, netsOn};
+ghost use Rattle.memory.specs.Memory.{memory, calledOn, openedOn, netsMemory, netsOn};
 
 // A swap of an amount that goes in, for at least `minimum`. Direction 0 is token 0 for token 1.
 #[no_mangle]
@@ -34,11 +30,12 @@ pub extern "C" fn cp_swap_base_input(
 ) -> u64
     ensures { λ r. ⌜ memory r (now (pool .exit)) (now (ring .exit)) (now (receipt .exit)) ≡ calledOn (now (pool .entry)) (now (ring .entry)) (now (receipt .entry)) (Call.SwapBaseInput direction «amount_in» minimum clock) ⌝ }
 {
+    let by_input = true;
     swap_on(
         pool,
         ring,
         receipt,
-        true,
+        by_input,
         direction,
         amount_in,
         minimum,
@@ -59,11 +56,12 @@ pub extern "C" fn cp_swap_base_output(
 ) -> u64
     ensures { λ r. ⌜ memory r (now (pool .exit)) (now (ring .exit)) (now (receipt .exit)) ≡ calledOn (now (pool .entry)) (now (ring .entry)) (now (receipt .entry)) (Call.SwapBaseOutput direction «amount_out» maximum clock) ⌝ }
 {
+    let by_input = false;
     swap_on(
         pool,
         ring,
         receipt,
-        false,
+        by_input,
         direction,
         amount_out,
         maximum,
@@ -83,17 +81,17 @@ pub extern "C" fn cp_swap_deposit(
 ) -> u64
     ensures { λ r. ⌜ memory r (now (pool .exit)) (now (ring .exit)) (now (receipt .exit)) ≡ calledOn (now (pool .entry)) (now (ring .entry)) (now (receipt .entry)) (Call.Deposit (record { 0 = lp }) (record { 0 = maximum0 }) (record { 0 = maximum1 })) ⌝ }
 {
-    let w = *pool;
-    let unreadable = record_number(w);
-    if unreadable != ACCEPTED {
-        return unreadable;
-    }
-    let after = pool_of(w).deposit(
+    let is_deposit = true;
+    change_on(
+        pool,
+        ring,
+        receipt,
+        is_deposit,
         LpTokens(lp),
+        LpTokens(0),
         TradingTokens(maximum0),
         TradingTokens(maximum1),
-    );
-    give(pool, receipt, after)
+    )
 }
 
 // LP tokens, of those that the caller owns, back for tokens of both kinds.
@@ -109,18 +107,17 @@ pub extern "C" fn cp_swap_withdraw(
 ) -> u64
     ensures { λ r. ⌜ memory r (now (pool .exit)) (now (ring .exit)) (now (receipt .exit)) ≡ calledOn (now (pool .entry)) (now (ring .entry)) (now (receipt .entry)) (Call.Withdraw (record { 0 = lp }) (record { 0 = owned }) (record { 0 = minimum0 }) (record { 0 = minimum1 })) ⌝ }
 {
-    let w = *pool;
-    let unreadable = record_number(w);
-    if unreadable != ACCEPTED {
-        return unreadable;
-    }
-    let after = pool_of(w).withdraw(
+    let is_deposit = false;
+    change_on(
+        pool,
+        ring,
+        receipt,
+        is_deposit,
         LpTokens(lp),
         LpTokens(owned),
         TradingTokens(minimum0),
         TradingTokens(minimum1),
-    );
-    give(pool, receipt, after)
+    )
 }
 
 // The creator counters are paid out, the shared part apart.
@@ -133,13 +130,7 @@ pub extern "C" fn cp_swap_settle_creator_fee(
 ) -> u64
     ensures { λ r. ⌜ memory r (now (pool .exit)) (now (ring .exit)) (now (receipt .exit)) ≡ calledOn (now (pool .entry)) (now (ring .entry)) (now (receipt .entry)) (Call.Settle share) ⌝ }
 {
-    let w = *pool;
-    let unreadable = record_number(w);
-    if unreadable != ACCEPTED {
-        return unreadable;
-    }
-    let after = pool_of(w).settle_creator_fee(share);
-    give(pool, receipt, after)
+    settle_on(pool, ring, receipt, share)
 }
 
 // One bit of the status is set or cleared.
@@ -153,13 +144,7 @@ pub extern "C" fn cp_swap_set_status(
 ) -> u64
     ensures { λ r. ⌜ memory r (now (pool .exit)) (now (ring .exit)) (now (receipt .exit)) ≡ calledOn (now (pool .entry)) (now (ring .entry)) (now (receipt .entry)) (Call.SetStatus bit flag) ⌝ }
 {
-    let w = *pool;
-    let unreadable = record_number(w);
-    if unreadable != ACCEPTED {
-        return unreadable;
-    }
-    let after = pool_of(w).set_status(bit, flag);
-    give(pool, receipt, after)
+    set_status_on(pool, ring, receipt, bit, flag)
 }
 
 // A new pool, whatever the memory held. The rates: trade, protocol, fund, creator, share.
@@ -178,19 +163,17 @@ pub extern "C" fn cp_swap_open(
     ensures { λ r. ⌜ memory r (now (pool .exit)) (now (ring .exit)) (now (receipt .exit)) ≡ openedOn (now (pool .entry)) (now (ring .entry)) (now (receipt .entry)) amount0 amount1 model enabled «open_time» (now (rates .entry)) ⌝ }
 {
     let w = *rates;
-    let opened = open(amount0, amount1, model, enabled, open_time, rates_of(w));
-    let after = opened.after;
-    let number = after.receipt.number;
-    if number != ACCEPTED {
-        return number;
-    }
-    let entries = opened.entries;
-    let first = after.pool;
-    let shown = after.receipt;
-    *ring = entries;
-    *pool = pool_words(first);
-    *receipt = receipt_words(shown);
-    ACCEPTED
+    open_on(
+        pool,
+        ring,
+        receipt,
+        amount0,
+        amount1,
+        model,
+        enabled,
+        open_time,
+        rates_of(w),
+    )
 }
 
 // The two nets of the pool, token 0's first.
@@ -198,16 +181,5 @@ pub extern "C" fn cp_swap_open(
 pub extern "C" fn cp_swap_nets(pool: &[u64; 21], nets: &mut [u64; 2]) -> u64
     ensures { λ r. ⌜ netsMemory r (now (nets .exit)) ≡ netsOn (now (pool .entry)) (now (nets .entry)) ⌝ }
 {
-    let w = *pool;
-    let unreadable = record_number(w);
-    if unreadable != ACCEPTED {
-        return unreadable;
-    }
-    match pool_of(w).nets() {
-        Nets::Of(net0, net1) => {
-            *nets = [net0, net1];
-            ACCEPTED
-        }
-        Nets::Refused(number) => number,
-    }
+    nets_on(pool, nets)
 }

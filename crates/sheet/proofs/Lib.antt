@@ -1,3 +1,4 @@
 pub mod Picks
-pub mod Spare
+pub mod Taken
+pub mod Asks
 pub mod Example

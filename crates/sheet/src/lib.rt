@@ -1,2 +1,3 @@
 // The day sheet: rows in, rows out.
+mod call;
 pub mod turn;

@@ -1,8 +1,7 @@
 // What a row of the day sheet does (document 01, 'The day sheet'): the sheet after it, and the receipt that its answer shows.
-use curve::constant_product::LpTokens;
-use curve::constant_product::TradingTokens;
-use opening::open;
-use pool::state::After;
+use crate::call::call_for;
+use crate::call::is_readable;
+use memory::calls::open_on;
 use pool::state::Pool;
 use rates::Rates;
 use rates::rate_number;
@@ -11,13 +10,16 @@ use receipt::refusal_receipt;
 use refusal::ACCEPTED;
 use refusal::UNREADABLE_ROW;
 use rows::row::Row;
+use words::pool_of;
+use words::pool_words;
+use words::receipt_of;
 ghost use mathlib.Core.Path.{_≡_};
-ghost use mathlib.Core.Bool.{_&&_};
 ghost use Prim.Native.Nat.{_+_, _-_};
-ghost use lib.Dec.{eqb};
 ghost use Rattle.oracle.specs.Ring.{Entries};
 ghost use Rattle.receipt.specs.Receipt.{refusal};
-ghost use Rattle.sheet.specs.Sheet.{sheetOf, turnOf, refusedRow, calledBesides, keepRates, perform, swapInput, swapOutput, firstAmount, secondAmount};
+ghost use Rattle.pool.specs.Opening.{opening};
+ghost use Rattle.sheet.specs.Sheet.{sheetOf, turnOf, refusedRow, keepRates, replaced, perform, swapInput, swapOutput, firstAmount, secondAmount};
+ghost use Rattle.sheet.specs.Stages.{taken, calledFor};
 
 // The rates for the next opening, and the pool. The ring's entries are lent beside them.
 pub struct Sheet {
@@ -37,26 +39,6 @@ pub struct Amounts {
     pub second: u64,
 }
 
-// Whether a row's spare numbers are 0; where it has fewer than five, zeros stand in for the others.
-fn all_zero(a: u64, b: u64, c: u64, d: u64, e: u64) -> bool
-    ensures { λ r. ⌜ r ≡ (eqb a 0 && eqb b 0 && eqb c 0 && eqb d 0 && eqb e 0) ⌝ }
-{
-    if a != 0 {
-        return false;
-    }
-    if b != 0 {
-        return false;
-    }
-    if c != 0 {
-        return false;
-    }
-    if d != 0 {
-        return false;
-    }
-    e == 0
-}
-
-// One function a kind. A number that has no name keeps the letter of its column: it is spare.
 impl Sheet {
     // A refused row leaves the sheet as it was.
     fn refuse(self, number: u64) -> Turn
@@ -69,13 +51,16 @@ impl Sheet {
         }
     }
 
-    // A call's pool takes the place of the sheet's; the rates stay.
-    fn with_after(self, after: After) -> Turn
-        ensures { λ r. ⌜ ((entries : Entries) → turnOf r entries ≡ calledBesides (sheetOf self entries) after) ⌝ }
+    // What the memory says that a call was lent: the pool and the receipt that it gave, or its refusal. The rates stay.
+    fn take(self, number: u64, pool: [u64; 21], receipt: [u64; 16]) -> Turn
+        ensures { λ r. ⌜ ((entries : Entries) → turnOf r entries ≡ taken (sheetOf self entries) number pool receipt) ⌝ }
     {
+        if number != ACCEPTED {
+            return self.refuse(number);
+        }
         let rates = self.rates;
-        let pool = after.pool;
-        let receipt = after.receipt;
+        let pool = pool_of(pool);
+        let receipt = receipt_of(receipt);
         Turn {
             sheet: Sheet { rates, pool },
             receipt,
@@ -108,119 +93,49 @@ impl Sheet {
         enabled: u64,
         open_time: u64,
     ) -> Turn
-        ensures { λ r. ⌜ turnOf r (now (entries .exit)) ≡ perform (sheetOf self (now (entries .entry))) (Row.Row 1 amount0 amount1 model enabled «open_time») ⌝ }
+        ensures { λ r. ⌜ turnOf r (now (entries .exit)) ≡ replaced (sheetOf self (now (entries .entry))) (opening amount0 amount1 model enabled «open_time» (self .rates)) ⌝ }
     {
         let rates = self.rates;
-        let opened = open(amount0, amount1, model, enabled, open_time, rates);
-        let number = opened.after.receipt.number;
-        if number != ACCEPTED {
-            return self.refuse(number);
-        }
-        let fresh = opened.entries;
-        *entries = fresh;
-        let after = opened.after;
-        self.with_after(after)
+        let mut pool = [0; 21];
+        let mut receipt = [0; 16];
+        let number = open_on(
+            &mut pool,
+            entries,
+            &mut receipt,
+            amount0,
+            amount1,
+            model,
+            enabled,
+            open_time,
+            rates,
+        );
+        self.take(number, pool, receipt)
     }
 
-    // Kind 2: direction, amount, minimum, clock.
-    fn swap_base_input(
+    // Kinds 2 to 7: the call that the row asks for, lent the pool's record and a receipt of zeros.
+    fn call(
         self,
         entries: &mut [u64; 500],
-        direction: u64,
-        amount: u64,
-        minimum: u64,
-        clock: u64,
+        kind: u64,
+        a: u64,
+        b: u64,
+        c: u64,
+        d: u64,
         e: u64,
     ) -> Turn
-        ensures { λ r. ⌜ turnOf r (now (entries .exit)) ≡ perform (sheetOf self (now (entries .entry))) (Row.Row 2 direction amount minimum clock e) ⌝ }
+        ensures { λ r. ⌜ turnOf r (now (entries .exit)) ≡ calledFor (sheetOf self (now (entries .entry))) kind a b c d e ⌝ }
     {
-        if e != 0 {
+        if !is_readable(kind, a, b, c, d, e) {
             return self.refuse(UNREADABLE_ROW);
         }
-        let pool = self.pool;
-        let after = pool.swap_base_input(entries, direction, amount, minimum, clock);
-        self.with_after(after)
+        let held = self.pool;
+        let share = held.rates.share;
+        let mut pool = pool_words(held);
+        let mut receipt = [0; 16];
+        let number = call_for(&mut pool, entries, &mut receipt, share, kind, a, b, c, d);
+        self.take(number, pool, receipt)
     }
 
-    // Kind 3: direction, amount, maximum, clock.
-    fn swap_base_output(
-        self,
-        entries: &mut [u64; 500],
-        direction: u64,
-        amount: u64,
-        maximum: u64,
-        clock: u64,
-        e: u64,
-    ) -> Turn
-        ensures { λ r. ⌜ turnOf r (now (entries .exit)) ≡ perform (sheetOf self (now (entries .entry))) (Row.Row 3 direction amount maximum clock e) ⌝ }
-    {
-        if e != 0 {
-            return self.refuse(UNREADABLE_ROW);
-        }
-        let pool = self.pool;
-        let after = pool.swap_base_output(entries, direction, amount, maximum, clock);
-        self.with_after(after)
-    }
-
-    // Kind 4: lp, maximums.
-    fn deposit(self, lp: u64, maximum0: u64, maximum1: u64, d: u64, e: u64) -> Turn
-        ensures { λ r. ⌜ ((entries : Entries) → turnOf r entries ≡ perform (sheetOf self entries) (Row.Row 4 lp maximum0 maximum1 d e)) ⌝ }
-    {
-        if !all_zero(0, 0, 0, d, e) {
-            return self.refuse(UNREADABLE_ROW);
-        }
-        let pool = self.pool;
-        let after = pool.deposit(
-            LpTokens(lp),
-            TradingTokens(maximum0),
-            TradingTokens(maximum1),
-        );
-        self.with_after(after)
-    }
-
-    // Kind 5: lp, owner's, minimums.
-    fn withdraw(self, lp: u64, owned: u64, minimum0: u64, minimum1: u64, e: u64) -> Turn
-        ensures { λ r. ⌜ ((entries : Entries) → turnOf r entries ≡ perform (sheetOf self entries) (Row.Row 5 lp owned minimum0 minimum1 e)) ⌝ }
-    {
-        if e != 0 {
-            return self.refuse(UNREADABLE_ROW);
-        }
-        let pool = self.pool;
-        let after = pool.withdraw(
-            LpTokens(lp),
-            LpTokens(owned),
-            TradingTokens(minimum0),
-            TradingTokens(minimum1),
-        );
-        self.with_after(after)
-    }
-
-    // Kind 6: settle at the pool's share rate, all five spare.
-    fn settle(self, a: u64, b: u64, c: u64, d: u64, e: u64) -> Turn
-        ensures { λ r. ⌜ ((entries : Entries) → turnOf r entries ≡ perform (sheetOf self entries) (Row.Row 6 a b c d e)) ⌝ }
-    {
-        if !all_zero(a, b, c, d, e) {
-            return self.refuse(UNREADABLE_ROW);
-        }
-        let pool = self.pool;
-        let share = pool.rates.share;
-        let after = pool.settle_creator_fee(share);
-        self.with_after(after)
-    }
-
-    // Kind 7: bit, flag.
-    fn set_status(self, bit: u64, flag: u64, c: u64, d: u64, e: u64) -> Turn
-        ensures { λ r. ⌜ ((entries : Entries) → turnOf r entries ≡ perform (sheetOf self entries) (Row.Row 7 bit flag c d e)) ⌝ }
-    {
-        if !all_zero(0, 0, c, d, e) {
-            return self.refuse(UNREADABLE_ROW);
-        }
-        let pool = self.pool;
-        let after = pool.set_status(bit, flag);
-        self.with_after(after)
-    }
-
-    // Any other kind is unreadable.
     fn perform_kind(
         self,
         entries: &mut [u64; 500],
@@ -242,13 +157,7 @@ impl Sheet {
                 share: e,
             }),
             1 => self.open(entries, a, b, c, d, e),
-            2 => self.swap_base_input(entries, a, b, c, d, e),
-            3 => self.swap_base_output(entries, a, b, c, d, e),
-            4 => self.deposit(a, b, c, d, e),
-            5 => self.withdraw(a, b, c, d, e),
-            6 => self.settle(a, b, c, d, e),
-            7 => self.set_status(a, b, c, d, e),
-            _ => self.refuse(UNREADABLE_ROW),
+            _ => self.call(entries, kind, a, b, c, d, e),
         }
     }
 }

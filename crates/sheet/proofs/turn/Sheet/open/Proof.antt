@@ -1,37 +1,27 @@
 -- `sheet::turn::Sheet::open` meets its contract.
 -- Assumes nothing.
-use mathlib.Core.Path.{_∙_, ap}
-use borrow.Author.Tests.{eq-eqb, ne-eqb}
-use Rattle.sheet.specs.Sheet.{replaced, perform}
-use Rattle.sheet.proofs.Picks.{picks-true, picks-false}
+use mathlib.Core.Path.{_∙_}
+use Rattle.memory.specs.Memory.{memory}
+use Rattle.sheet.specs.Sheet.{sheetOf}
+use Rattle.sheet.proofs.Taken.{opening-taken}
 use borrow.Author.Needs.{needs}
 use Rattle.sheet.proofs.turn.Sheet.open.Statement.{statement}
 use Rattle.sheet.proofs.turn.Sheet.open.Tie as tie
 
-open-requires : tie.Need-open-requires
-open-requires c κs = search needs
+open-on-requires : tie.Need-open-on-requires
+open-on-requires c κs = search needs
 
-refuse-requires : tie.Need-refuse-requires
-refuse-requires c κs = search needs
+take-requires : tie.Need-take-requires
+take-requires c κs = search needs
 
 returns : tie.Need-returns
-unfolding perform replaced
 returns c =
-    c .refuse .ensures _
-    ∙ picks-false _ _ _ (ne-eqb _ _ (c .before .if1 .taken))
-    ∙ ap (replaced _) (c .before .before .«open» .ensures)
-
-with-after-requires : tie.Need-with-after-requires
-with-after-requires c κs = search needs
-
-returns-2 : tie.Need-returns-2
-unfolding perform replaced
-returns-2 c =
-    let k = c .before .before .before in
-    c .with-after .ensures _
-    ∙ picks-true _ _ _ (eq-eqb _ _ (k .if1 .left))
-    ∙ ap (replaced _) (k .before .«open» .ensures)
+    let k = c .before in
+    let a = k .before .before .before .before .before .args in
+    let left = k .open-on .last in
+    c .take .ensures (left .1 .0)
+    ∙ opening-taken (sheetOf (a .self) (a .entries .now)) _ _ (a .amount0) (a .amount1) (a .model) (a .enabled) (a .open-time)
+    (memory (k .open-on .result) (left .0) (left .1 .0) (left .1 .1 .0)) (k .open-on .ensures)
 
 pub open-spec : {M : Type 1} → statement M
-open-spec =
-    tie.close (tie.spec open-requires refuse-requires returns with-after-requires returns-2)
+open-spec = tie.close (tie.spec open-on-requires take-requires returns)

@@ -1,0 +1,148 @@
+// Each call, an opening and the nets, over plain memory.
+use crate::record::give;
+use crate::record::record_number;
+use accounting::Nets;
+use curve::constant_product::LpTokens;
+use curve::constant_product::TradingTokens;
+use history::call::Call;
+use opening::open;
+use oracle::store;
+use rates::Rates;
+use refusal::ACCEPTED;
+use words::pool_of;
+use words::pool_words;
+use words::receipt_words;
+ghost use mathlib.Core.Path.{_≡_};
+ghost use Rattle.memory.specs.Memory.{memory, calledOn, netsMemory, netsOn};
+ghost use Rattle.memory.specs.Steps.{swapCall, changeCall, openedWith};
+
+// Either swap. The ring's entries are stored last; a refused swap has none to store.
+pub fn swap_on(
+    pool: &mut [u64; 21],
+    ring: &mut [u64; 500],
+    receipt: &mut [u64; 16],
+    by_input: bool,
+    direction: u64,
+    amount: u64,
+    limit: u64,
+    clock: u64,
+) -> u64
+    ensures { λ r. ⌜ memory r (now (pool .exit)) (now (ring .exit)) (now (receipt .exit)) ≡ calledOn (now (pool .entry)) (now (ring .entry)) (now (receipt .entry)) (swapCall «by_input» direction amount limit clock) ⌝ }
+{
+    let w = *pool;
+    let unreadable = record_number(w);
+    if unreadable != ACCEPTED {
+        return unreadable;
+    }
+    let decision = pool_of(w).decide(ring, by_input, direction, amount, limit, clock);
+    let update = decision.update;
+    let number = give(pool, receipt, decision.after);
+    store(ring, update);
+    number
+}
+
+// A deposit with two maximums, or a withdrawal of LP tokens, of those that the caller owns, with two minimums.
+pub fn change_on(
+    pool: &mut [u64; 21],
+    ring: &mut [u64; 500],
+    receipt: &mut [u64; 16],
+    is_deposit: bool,
+    lp: LpTokens,
+    owned: LpTokens,
+    limit0: TradingTokens,
+    limit1: TradingTokens,
+) -> u64
+    ensures { λ r. ⌜ memory r (now (pool .exit)) (now (ring .exit)) (now (receipt .exit)) ≡ calledOn (now (pool .entry)) (now (ring .entry)) (now (receipt .entry)) (changeCall «is_deposit» lp owned limit0 limit1) ⌝ }
+{
+    let w = *pool;
+    let unreadable = record_number(w);
+    if unreadable != ACCEPTED {
+        return unreadable;
+    }
+    let after = pool_of(w).change(is_deposit, lp, owned, limit0, limit1);
+    give(pool, receipt, after)
+}
+
+// The creator counters are paid out, the shared part apart.
+pub fn settle_on(
+    pool: &mut [u64; 21],
+    ring: &mut [u64; 500],
+    receipt: &mut [u64; 16],
+    share: u64,
+) -> u64
+    ensures { λ r. ⌜ memory r (now (pool .exit)) (now (ring .exit)) (now (receipt .exit)) ≡ calledOn (now (pool .entry)) (now (ring .entry)) (now (receipt .entry)) (Call.Settle share) ⌝ }
+{
+    let w = *pool;
+    let unreadable = record_number(w);
+    if unreadable != ACCEPTED {
+        return unreadable;
+    }
+    let after = pool_of(w).settle_creator_fee(share);
+    give(pool, receipt, after)
+}
+
+// One bit of the status is set or cleared.
+pub fn set_status_on(
+    pool: &mut [u64; 21],
+    ring: &mut [u64; 500],
+    receipt: &mut [u64; 16],
+    bit: u64,
+    flag: u64,
+) -> u64
+    ensures { λ r. ⌜ memory r (now (pool .exit)) (now (ring .exit)) (now (receipt .exit)) ≡ calledOn (now (pool .entry)) (now (ring .entry)) (now (receipt .entry)) (Call.SetStatus bit flag) ⌝ }
+{
+    let w = *pool;
+    let unreadable = record_number(w);
+    if unreadable != ACCEPTED {
+        return unreadable;
+    }
+    let after = pool_of(w).set_status(bit, flag);
+    give(pool, receipt, after)
+}
+
+// A new pool, whatever the memory held.
+pub fn open_on(
+    pool: &mut [u64; 21],
+    ring: &mut [u64; 500],
+    receipt: &mut [u64; 16],
+    amount0: u64,
+    amount1: u64,
+    model: u64,
+    enabled: u64,
+    open_time: u64,
+    rates: Rates,
+) -> u64
+    ensures { λ r. ⌜ memory r (now (pool .exit)) (now (ring .exit)) (now (receipt .exit)) ≡ openedWith (now (pool .entry)) (now (ring .entry)) (now (receipt .entry)) amount0 amount1 model enabled «open_time» rates ⌝ }
+{
+    let opened = open(amount0, amount1, model, enabled, open_time, rates);
+    let after = opened.after;
+    let number = after.receipt.number;
+    if number != ACCEPTED {
+        return number;
+    }
+    let entries = opened.entries;
+    let first = after.pool;
+    let shown = after.receipt;
+    *ring = entries;
+    *pool = pool_words(first);
+    *receipt = receipt_words(shown);
+    ACCEPTED
+}
+
+// The two nets of the pool, token 0's first.
+pub fn nets_on(pool: &[u64; 21], nets: &mut [u64; 2]) -> u64
+    ensures { λ r. ⌜ netsMemory r (now (nets .exit)) ≡ netsOn (now (pool .entry)) (now (nets .entry)) ⌝ }
+{
+    let w = *pool;
+    let unreadable = record_number(w);
+    if unreadable != ACCEPTED {
+        return unreadable;
+    }
+    match pool_of(w).nets() {
+        Nets::Of(net0, net1) => {
+            *nets = [net0, net1];
+            ACCEPTED
+        }
+        Nets::Refused(number) => number,
+    }
+}
