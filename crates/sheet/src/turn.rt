@@ -51,7 +51,7 @@ impl Sheet {
         }
     }
 
-    // What the memory says that a call was lent: the pool and the receipt that it gave, or its refusal. The rates stay.
+    // What a call left in the memory that it was lent: the pool and the receipt that it gave, or nothing but its number. The rates stay.
     fn take(self, number: u64, pool: [u64; 21], receipt: [u64; 16]) -> Turn
         ensures { λ r. ⌜ ((entries : Entries) → turnOf r entries ≡ taken (sheetOf self entries) number pool receipt) ⌝ }
     {
@@ -136,6 +136,7 @@ impl Sheet {
         self.take(number, pool, receipt)
     }
 
+    // Rates, an opening, or a call; any other kind is unreadable.
     fn perform_kind(
         self,
         entries: &mut [u64; 500],
