@@ -1,13 +1,27 @@
 -- Parts of an amount by a divisor of at most 2 ^ 32: what is left of the amount is short enough to be scaled in 64 bits.
 use mathlib.Core.Path.{_≡_, sym, ap, _∙_, subst}
 use Prim.Native.Nat.{ℕ, _+_, _-_, _*_, _/_, _%_, _^_, _≤_, _<_}
-use native.Mathlib.Nat.{mul-le-mul, mul-le-mul-left, le-trans, lt-of-le-of-lt, mod-lt, div-lt-iff-lt-mul, le-div-iff-mul-le}
+use native.Mathlib.Nat.{mul-le-mul, mul-le-mul-left, le-trans, lt-of-le-of-lt, mod-lt, div-le-self, div-lt-iff-lt-mul, le-div-iff-mul-le}
 use native.Mathlib.Omega.{arith}
 use Rattle.divide.specs.Division.{ceilDiv}
 use Rattle.divide.proofs.Long.{floor-parted}
 use Rattle.math.specs.declared.ratio.Quotient.the-variants as Q
 use Rattle.math.specs.Ratio.{ceilOf}
 use Rattle.math.proofs.Rounding.{floor-le, ceil-parted, share-floor-le, share-ceil-le, ceil-fits, ceil-past}
+
+-- a short amount times the whole
+pub short : (amount whole : ℕ) → amount < 2 ^ 44 → whole ≤ 2 ^ 20 → amount * whole + whole ≤ 2 ^ 64
+short amount whole ha hw =
+    let below : amount ≤ 2 ^ 44 - 1 = omega arith in
+    omega (arith, mul-le-mul below hw)
+
+-- it has 64 bits times less than the whole too, and when it is rounded up by less than the whole
+module _ (amount k whole : ℕ) (is-short : amount * whole + whole ≤ 2 ^ 64) (h : k ≤ whole) (hw : 0 < whole) where
+  pub short-fits : amount * k < 2 ^ 64
+  short-fits = omega (arith, mul-le-mul-left amount h)
+
+  pub raised-short-fits : (p : ℕ) → p ≤ whole → amount * k + (p - 1) < 2 ^ 64
+  raised-short-fits p hp = omega (arith, mul-le-mul-left amount h)
 
 -- what a division by d leaves, k times
 module _ (n k d : ℕ) (hd : 0 < d) (short : d ≤ 2 ^ 32) (hk : k ≤ 2 ^ 32) where
@@ -33,6 +47,9 @@ module _ (amount rate whole : ℕ) (h : rate ≤ whole) (hw : 0 < whole) (fits :
 
 -- an amount scaled up, as an answer
 module _ (amount whole part : ℕ) (hp : 0 < part) (hw : 0 < whole) where
+  pub short-answer : amount * whole + (part - 1) < 2 ^ 64 → Q.Fits (ceilDiv (amount * whole) part) ≡ ceilOf (amount * whole) part
+  short-answer h = sym (ceil-fits (amount * whole) part hp (lt-of-le-of-lt (div-le-self (amount * whole + (part - 1)) part) h))
+
   pub scaled-past : (2 ^ 64 - 1) / whole < amount / part → Q.Past ≡ ceilOf (amount * whole) part
   scaled-past h =
       let past : 2 ^ 64 - 1 < amount / part * whole = div-lt-iff-lt-mul {k = whole} {x = 2 ^ 64 - 1} {y = amount / part} hw .0 h in

@@ -1,15 +1,29 @@
 // Parts of an amount at a rate, as rate / whole of it (floor_div and ceil_div of the original's curve/fees.rs). The whole has at most 33 bits, so u64 is wide enough throughout.
 use math::ratio::Quotient;
+ghost use mathlib.Core.Bool.{true};
 ghost use mathlib.Core.Path.{_≡_};
-ghost use Prim.Native.Nat.{_*_, _/_, _^_, _≤_, _<_};
+ghost use Prim.Native.Nat.{_+_, _*_, _/_, _^_, _≤_, _<_};
 ghost use Rattle.divide.specs.Division.{ceilDiv};
 ghost use Rattle.math.specs.Ratio.{ceilOf};
+
+// Whether the amount times the whole has 64 bits, and room for rounding up: so it is for most amounts, and one division is enough.
+fn is_short(amount: u64, whole: u64) -> bool
+    ensures { λ r. ⌜ (r ≡ true → amount * whole + whole ≤ 2 ^ 64) ⌝ }
+{
+    if amount >= 0x1000_0000_0000 {
+        return false;
+    }
+    whole <= 0x10_0000
+}
 
 // amount * rate / whole, rounded down: protocol, fund and shared part.
 pub fn share_floor(amount: u64, rate: u64, whole: u64) -> u64
     requires { ⌜ (rate ≤ whole) × (0 < whole) × (whole ≤ 2 ^ 32) ⌝ }
     ensures { λ r. ⌜ r ≡ amount * rate / whole ⌝ }
 {
+    if is_short(amount, whole) {
+        return amount * rate / whole;
+    }
     amount / whole * rate + amount % whole * rate / whole
 }
 
@@ -18,6 +32,9 @@ pub fn share_ceil(amount: u64, rate: u64, whole: u64) -> u64
     requires { ⌜ (rate ≤ whole) × (0 < whole) × (whole ≤ 2 ^ 32) ⌝ }
     ensures { λ r. ⌜ r ≡ ceilDiv (amount * rate) whole ⌝ }
 {
+    if is_short(amount, whole) {
+        return (amount * rate + (whole - 1)) / whole;
+    }
     amount / whole * rate + (amount % whole * rate + (whole - 1)) / whole
 }
 
@@ -26,6 +43,9 @@ pub fn scale_ceil(amount: u64, whole: u64, part: u64) -> Quotient
     requires { ⌜ (0 < part) × (part ≤ whole) × (whole ≤ 2 ^ 32) ⌝ }
     ensures { λ r. ⌜ r ≡ ceilOf (amount * whole) part ⌝ }
 {
+    if is_short(amount, whole) {
+        return Quotient::Fits((amount * whole + (part - 1)) / part);
+    }
     let times = amount / part;
     let rest = (amount % part * whole + (part - 1)) / part;
     if u64::MAX / whole < times {

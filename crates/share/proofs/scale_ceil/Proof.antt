@@ -1,8 +1,9 @@
--- `share::scale_ceil` meets its contract: each test before a step that could overflow says whether the answer is past a u64 (`Shares.antt`).
-use Prim.Native.Nat.{_-_, _*_, _/_, _^_, _≤_, _<_}
-use native.Mathlib.Nat.{le-trans, lt-of-lt-of-le, lt-of-le-of-lt}
+-- `share::scale_ceil` meets its contract: a short amount is scaled at once; for another each test before a step that could overflow says
+-- whether the answer is past a u64 (`Shares.antt`).
+use Prim.Native.Nat.{_+_, _-_, _*_, _/_, _^_, _≤_, _<_}
+use native.Mathlib.Nat.{le-refl, le-trans, lt-of-lt-of-le, lt-of-le-of-lt}
 use lib.Dec.{lit<}
-use Rattle.share.proofs.Shares.{rest-fits, raised-rest-fits, scaled-past, scaled-le, sum-lt, sum-fits, sum-past}
+use Rattle.share.proofs.Shares.{short-fits, raised-short-fits, short-answer, rest-fits, raised-rest-fits, scaled-past, scaled-le, sum-lt, sum-fits, sum-past}
 use borrow.Author.Needs.{needs}
 use Rattle.share.proofs.scale_ceil.Statement.{statement}
 use Rattle.share.proofs.scale_ceil.Tie as tie
@@ -10,8 +11,33 @@ use Rattle.share.proofs.scale_ceil.Tie as tie
 whole-pos : (c : tie.Start) → 0 < c .args .whole
 whole-pos c = lt-of-lt-of-le (c .pre .0) (c .pre .1)
 
-scaled : (c : tie.Else1) → c .before .args .amount / c .before .args .part * c .before .args .whole ≤ 2 ^ 64 - 1
-scaled c = scaled-le _ _ _ (c .before .pre .0) (whole-pos (c .before)) (c .if1 .left)
+raised-fits : (c : tie.Then1) → let a = c .before .before .args in a .amount * a .whole + (a .part - 1) < 2 ^ 64
+raised-fits c =
+    let s = c .before .before in
+    raised-short-fits _ _ _ (c .before .is-short .ensures (c .if1 .taken)) (le-refl _) (whole-pos s) _ (s .pre .1)
+
+scaled : (c : tie.Else2) → let a = c .before .before .before .args in a .amount / a .part * a .whole ≤ 2 ^ 64 - 1
+scaled c = let s = c .before .before .before in scaled-le _ _ _ (s .pre .0) (whole-pos s) (c .if2 .left)
+
+is-short-requires : tie.Need-is-short-requires
+is-short-requires c κs = search needs
+
+mul-t8 : tie.Need-mul-t8
+mul-t8 c =
+    let s = c .before .before in
+    record { fits = short-fits _ _ _ (c .before .is-short .ensures (c .if1 .taken)) (le-refl _) (whole-pos s) }
+
+sub-t9 : tie.Need-sub-t9
+sub-t9 c = search needs
+
+add-t10 : tie.Need-add-t10
+add-t10 c = record { fits = raised-fits c }
+
+div-t11 : tie.Need-div-t11
+div-t11 c = search needs
+
+returns : tie.Need-returns
+returns c = let s = c .before .before in short-answer _ _ _ (s .pre .0) (whole-pos s) (raised-fits c)
 
 div-times : tie.Need-div-times
 div-times c = search needs
@@ -20,52 +46,60 @@ rem-rest : tie.Need-rem-rest
 rem-rest c = search needs
 
 mul-rest : tie.Need-mul-rest
-mul-rest c = record { fits = rest-fits _ _ _ (c .pre .0) (le-trans (c .pre .1) (c .pre .2)) (c .pre .2) }
+mul-rest c = let s = c .before .before in record { fits = rest-fits _ _ _ (s .pre .0) (le-trans (s .pre .1) (s .pre .2)) (s .pre .2) }
 
 sub-rest : tie.Need-sub-rest
 sub-rest c = search needs
 
 add-rest : tie.Need-add-rest
-add-rest c = record { fits = raised-rest-fits _ _ _ (c .pre .0) (le-trans (c .pre .1) (c .pre .2)) (c .pre .2) }
+add-rest c = let s = c .before .before in record { fits = raised-rest-fits _ _ _ (s .pre .0) (le-trans (s .pre .1) (s .pre .2)) (s .pre .2) }
 
 div-rest : tie.Need-div-rest
 div-rest c = search needs
 
-div-if1 : tie.Need-div-if1
-div-if1 c = whole-pos c
+div-if2 : tie.Need-div-if2
+div-if2 c = whole-pos (c .before .before)
 
-returns : tie.Need-returns
-returns c = scaled-past _ _ _ (c .before .pre .0) (whole-pos (c .before)) (c .if1 .taken)
+returns-2 : tie.Need-returns-2
+returns-2 c = let s = c .before .before .before in scaled-past _ _ _ (s .pre .0) (whole-pos s) (c .if2 .taken)
 
 mul-scaled : tie.Need-mul-scaled
 mul-scaled c = record { fits = lt-of-le-of-lt (scaled c) (lit< tt) }
 
-sub-if2 : tie.Need-sub-if2
-sub-if2 c = scaled c
+sub-if3 : tie.Need-sub-if3
+sub-if3 c = scaled c
 
-add-t13 : tie.Need-add-t13
-add-t13 c = let s = c .before .before in record { fits = sum-lt _ _ _ (s .pre .0) (whole-pos s) (scaled (c .before)) (c .if2 .taken) }
-
-returns-2 : tie.Need-returns-2
-returns-2 c = let s = c .before .before in sum-fits _ _ _ (s .pre .0) (whole-pos s) (scaled (c .before)) (c .if2 .taken)
+add-t18 : tie.Need-add-t18
+add-t18 c =
+    let s = c .before .before .before .before in
+    record { fits = sum-lt _ _ _ (s .pre .0) (whole-pos s) (scaled (c .before)) (c .if3 .taken) }
 
 returns-3 : tie.Need-returns-3
-returns-3 c = let s = c .before .before in sum-past _ _ _ (s .pre .0) (whole-pos s) (scaled (c .before)) (c .if2 .left)
+returns-3 c = let s = c .before .before .before .before in sum-fits _ _ _ (s .pre .0) (whole-pos s) (scaled (c .before)) (c .if3 .taken)
+
+returns-4 : tie.Need-returns-4
+returns-4 c = let s = c .before .before .before .before in sum-past _ _ _ (s .pre .0) (whole-pos s) (scaled (c .before)) (c .if3 .left)
 
 pub scale-ceil-spec : {M : Type 1} → statement M
 scale-ceil-spec =
     tie.close
     (tie.spec
+    is-short-requires
+    mul-t8
+    sub-t9
+    add-t10
+    div-t11
+    returns
     div-times
     rem-rest
     mul-rest
     sub-rest
     add-rest
     div-rest
-    div-if1
-    returns
-    mul-scaled
-    sub-if2
-    add-t13
+    div-if2
     returns-2
-    returns-3)
+    mul-scaled
+    sub-if3
+    add-t18
+    returns-3
+    returns-4)
