@@ -4,11 +4,11 @@ use mathlib.Core.Path.{_≡_, refl, sym, ap, _∙_}
 use mathlib.Core.Bool.{Bool, true, false, cond, _&&_}
 use mathlib.Core.List.{List, [], _∷_}
 use native.Mathlib.Omega.{arith}
-use borrow.Author.Tests.{lt-ltb, le-ltb, le-leb, lt-leb, ne-eqb, leb-true}
-use lib.Dec.{leb}
+use borrow.Author.Tests.{lt-ltb, le-ltb, le-leb, lt-leb, ne-eqb, ltb-true, ltb-false, leb-true}
+use lib.Dec.{ltb, leb}
 use lib.ListN.{length, getD, drop, length-drop, drop-of-length-le}
 use lib.Seq.{drop-cons}
-use Rattle.refusal.specs.Tests.{U64}
+use Rattle.refusal.specs.Tests.{U64, past}
 use Rattle.columns.specs.declared.Reading.{Reading}
 use Rattle.columns.specs.declared.Reading.the-variants.{Unreadable, Reads}
 use Rattle.columns.specs.Column.{blank, isDigit, readDigits, inRange, readColumn}
@@ -42,6 +42,14 @@ unfolding readDigits inRange
 above-digits bytes at value h high =
     let low : 48 ≤ getD bytes at 0 = omega arith in
     first-byte bytes at value h ∙ rw (le-leb 48 (getD bytes at 0) low, lt-leb (getD bytes at 0) 57 high)
+
+-- of a number with all the digits of 2^64 − 1 but the last, the last decides whether it is past it
+pub last-decides : (last value digit : ℕ) → value * 10 + last ≡ U64 → ltb last digit ≡ past (value * 10 + digit)
+last-decides last value digit e = go (ltb last digit) refl
+  where
+    go : (more : Bool) → ltb last digit ≡ more → more ≡ past (value * 10 + digit)
+    go true h = let k = ltb-true last digit h in sym (lt-ltb U64 (value * 10 + digit) (omega arith))
+    go false h = let k = ltb-false last digit h in sym (le-ltb U64 (value * 10 + digit) (omega arith))
 
 -- what is past 2^64 − 1 stays past it
 pub stays-past : (value : ℕ) (bytes : List ℕ) → U64 < value → Read value bytes ≡ Unreadable

@@ -1,11 +1,17 @@
 // Numbers in columns of the day sheet: decimal, right-justified, blanks before, at least one digit.
 ghost use mathlib.Core.Path.{_≡_};
 ghost use mathlib.Core.Bool.{cond};
-ghost use Prim.Native.Nat.{_%_, _<_};
+ghost use Prim.Native.Nat.{_+_, _*_, _%_, _≤_, _<_};
 ghost use lib.Dec.{eqb};
 ghost use lib.ListN.{length, getD, drop};
 ghost use denote.Ref.{ptr};
+ghost use Rattle.refusal.specs.Tests.{past};
 ghost use Rattle.columns.specs.Column.{blank, digitByte, readDigits, inRange, readColumn, column, hasRoom, withColumn, formatted, placed};
+
+// 2^64 − 1 without its last digit.
+const MAX_TENTH: u64 = u64::MAX / 10;
+// The last digit of 2^64 − 1.
+const MAX_LAST: u64 = u64::MAX % 10;
 
 pub enum Reading {
     Unreadable,
@@ -26,6 +32,20 @@ fn blanks_before(bytes: &[u8]) -> usize
     at
 }
 
+// Whether a number with one digit more is past 2^64 − 1. The first comparison nearly always decides.
+fn is_past(value: u64, digit: u64) -> bool
+    requires { ⌜ digit ≤ 9 ⌝ }
+    ensures { λ r. ⌜ r ≡ past (value * 10 + digit) ⌝ }
+{
+    if value < MAX_TENTH {
+        return false;
+    }
+    if value > MAX_TENTH {
+        return true;
+    }
+    digit > MAX_LAST
+}
+
 // Digits from a place to the end, at most 2^64 − 1.
 fn read_digits(bytes: &[u8], from: usize) -> Reading
     ensures { λ r. ⌜ r ≡ inRange (readDigits 0 (drop from (now (bytes .entry)))) ⌝ }
@@ -41,7 +61,7 @@ fn read_digits(bytes: &[u8], from: usize) -> Reading
             return Reading::Unreadable;
         }
         let digit = (byte - b'0') as u64;
-        if value > (u64::MAX - digit) / 10 {
+        if is_past(value, digit) {
             return Reading::Unreadable;
         }
         value = value * 10 + digit;

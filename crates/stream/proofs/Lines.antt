@@ -1,13 +1,13 @@
 -- Lines of an input: the bytes before a newline, and what is kept of a row.
-use Prim.Native.Nat.{ℕ, zero, suc, _-_, _≤_, _<_}
+use Prim.Native.Nat.{ℕ, zero, suc, _+_, _-_, _≤_, _<_}
 use mathlib.Core.Path.{_≡_, refl, sym, ap, _∙_}
-use mathlib.Core.Bool.{Bool, true, false, cond}
+use mathlib.Core.Bool.{Bool, true, false, cond, _||_}
 use mathlib.Core.List.{List, [], _∷_, _++_}
 use native.Mathlib.Omega.{arith}
 use native.Mathlib.Nat.{min-le-left}
 use native.Mathlib.Decide.{decLe}
-use borrow.Author.Tests.{eq-eqb, ne-eqb, eqb-true}
-use lib.Dec.{eqb}
+use borrow.Author.Tests.{eq-eqb, ne-eqb, eqb-true, lt-ltb, ltb-false}
+use lib.Dec.{eqb, ltb, leb·suc-suc}
 use lib.ListN.{length, getD, take, drop, length-take, length-drop, drop-of-length-le}
 use lib.Seq.{drop-cons, take-all, length-take-le}
 use Rattle.rows.specs.Row.{newline, readRow}
@@ -63,6 +63,40 @@ line-found input from n e =
     let rest = take-all (length input - from) (drop from input) (omega arith) in
     let is = e ∙ ap lineLength rest in
     record { rest = rest; is = is; within = omega (arith, is, line-within (drop from input)); long = long }
+
+-- ---- many bytes at once: whether a newline is among them
+abbrev pub hasNewline : List ℕ → Bool
+hasNewline bytes = ltb (lineLength bytes) (length bytes)
+
+-- at a newline, at another byte and at the end
+pub newline-found : (found : Bool) (bytes : List ℕ) (at : ℕ) → at < length bytes → getD bytes at 0 ≡ newline → found || hasNewline (drop at bytes) ≡ true
+newline-found true bytes at h e = refl
+newline-found false bytes at h e = rw (at-newline bytes at h e) (lt-ltb 0 (length (drop at bytes)) (simp length-drop (omega arith)))
+
+pub none-found : (found : Bool) (bytes : List ℕ) (at : ℕ) → at < length bytes → (getD bytes at 0 ≡ newline → ⊥) → found || hasNewline (drop at bytes) ≡ found || hasNewline (drop (suc at) bytes)
+unfolding lineLength
+none-found found bytes at h other = rw (drop-cons bytes at 0 h, ne-eqb (getD bytes at 0) newline other, leb·suc-suc)
+
+pub all-looked : (found : Bool) (bytes : List ℕ) (at : ℕ) → length bytes ≤ at → found || hasNewline (drop at bytes) ≡ found
+unfolding lineLength
+all-looked true bytes at h = refl
+all-looked false bytes at h = rw (drop-of-length-le bytes h)
+
+-- bytes with no newline among them stand before whatever follows
+before-rest : (n : ℕ) (bytes : List ℕ) → n ≤ length bytes → length (take n bytes) ≤ lineLength (take n bytes) → lineLength bytes ≡ n + lineLength (drop n bytes)
+unfolding lineLength
+before-rest zero bytes h k = omega arith
+before-rest (suc n) [] h k = absurd (omega arith)
+before-rest (suc n) (byte ∷ bytes) h k = go (eqb byte newline) (before-rest n bytes (omega arith)) k
+  where
+    go : (ends : Bool) → (length (take n bytes) ≤ lineLength (take n bytes) → lineLength bytes ≡ n + lineLength (drop n bytes))
+        → suc (length (take n bytes)) ≤ cond ends zero (suc (lineLength (take n bytes)))
+        → cond ends zero (suc (lineLength bytes)) ≡ suc n + lineLength (drop n bytes)
+    go true later k = absurd (omega arith)
+    go false later k = let e = later (omega arith) in omega arith
+
+pub none-among : (n : ℕ) (bytes : List ℕ) → n ≤ length bytes → hasNewline (take n bytes) ≡ false → lineLength bytes ≡ n + lineLength (drop n bytes)
+none-among n bytes h e = before-rest n bytes h (ltb-false _ _ e)
 
 -- ---- what is kept of a row
 pub kept-whole : (bytes : List ℕ) → length bytes ≤ 103 → kept bytes ≡ bytes

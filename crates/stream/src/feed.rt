@@ -12,6 +12,7 @@ use sheet::turn::perform;
 ghost use mathlib.Core.Path.{_≡_};
 ghost use mathlib.Core.List.{List, [], _++_};
 ghost use Prim.Native.Nat.{ℕ, _+_, _-_, _≤_, min};
+ghost use lib.Dec.{ltb};
 ghost use lib.ListN.{length, replicate, take, drop};
 ghost use Rattle.pool.specs.Opening.{zeroEntries};
 ghost use Rattle.rows.specs.Row.{readRow};
@@ -19,6 +20,9 @@ ghost use Rattle.sheet.specs.Sheet.{sheetOf, emptySheet, perform};
 ghost use Rattle.stream.specs.Pieces.{kept, feed, finish, holding, leftBy, leftOf, leftAtEnd, endOf};
 ghost use Rattle.stream.specs.Pieces.{Fed as FedPiece};
 ghost use Rattle.stream.specs.Stages.{lineLength, Answered, Midway, Through};
+
+// The bytes of a row before its newline.
+const LINE_BYTES: usize = ROW_BYTES - 1;
 
 // The sheet between two pieces, and how many bytes are held of a row that is begun.
 pub struct Going {
@@ -63,11 +67,39 @@ pub fn start() -> Going
     Going { sheet, begun: 0 }
 }
 
+// Whether a newline is among these bytes. The loop never ends early, so that the compiler takes many bytes at a time.
+fn has_newline(bytes: &[u8]) -> bool
+    ensures { λ r. ⌜ r ≡ ltb (lineLength (now (bytes .entry))) (length (now (bytes .entry))) ⌝ }
+{
+    let mut found = false;
+    let mut at = 0;
+    while at < bytes.len() {
+        if bytes[at] == b'\n' {
+            found = true;
+        }
+        at += 1;
+    }
+    found
+}
+
+// How many bytes can be passed over at once: those of a row where no newline is among so many, else none.
+fn pass_row(bytes: &[u8]) -> usize
+    ensures { λ r. ⌜ lineLength (now (bytes .entry)) ≡ r + lineLength (drop r (now (bytes .entry))) ⌝ }
+{
+    if bytes.len() < LINE_BYTES {
+        return 0;
+    }
+    if has_newline(&bytes[..LINE_BYTES]) {
+        return 0;
+    }
+    LINE_BYTES
+}
+
 // How many bytes stand before the first newline, or all where there is none.
 fn line_length(bytes: &[u8]) -> usize
     ensures { λ r. ⌜ r ≡ lineLength (now (bytes .entry)) ⌝ }
 {
-    let mut at = 0;
+    let mut at = pass_row(bytes);
     while at < bytes.len() {
         if bytes[at] == b'\n' {
             return at;

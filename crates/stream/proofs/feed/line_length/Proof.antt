@@ -1,8 +1,7 @@
 -- `stream::feed::line_length` meets its contract. The loop's invariant: the bytes passed, and the line that is left of the others.
 -- Assumes nothing.
 use Prim.Native.Nat.{_+_, _-_}
-use mathlib.Core.Path.{_≡_, sym}
-use native.Mathlib.Nat.{zero-add}
+use mathlib.Core.Path.{_≡_}
 use native.Mathlib.Numerals.{add-one}
 use native.Mathlib.Omega.{arith}
 use lib.ListN.{length, drop}
@@ -18,8 +17,11 @@ Inv-loop bytes at₀ at = lineLength bytes ≡ at + lineLength (drop at bytes)
 abbrev μ-loop : tie.MeasureT-loop
 μ-loop bytes at₀ at = length bytes - at
 
+pass-row-requires : tie.Need-pass-row-requires Inv-loop μ-loop
+pass-row-requires c κs = search needs
+
 loop-holds : tie.Need-loop-holds Inv-loop μ-loop
-loop-holds c = sym (zero-add _)
+loop-holds c = c .pass-row .ensures
 
 shared-slice-read-if1 : tie.Need-shared-slice-read-if1 Inv-loop μ-loop
 shared-slice-read-if1 c = search needs
@@ -27,7 +29,7 @@ shared-slice-read-if1 c = search needs
 returns : tie.Need-returns Inv-loop μ-loop
 returns c =
     let at = c .before .before .before .loop .at in
-    let bytes = c .before .before .before .before .args .bytes .now in
+    let bytes = c .before .before .before .before .before .before .args .bytes .now in
     let e = at-newline bytes at (omega arith) (c .if1 .taken) in
     omega arith
 
@@ -40,14 +42,14 @@ loop-less c = search needs
 loop-again : tie.Need-loop-again Inv-loop μ-loop
 loop-again c =
     let at = c .before .before .before .loop .at in
-    let bytes = c .before .before .before .before .args .bytes .now in
+    let bytes = c .before .before .before .before .before .before .args .bytes .now in
     let e = past-byte bytes at (omega arith) (c .if1 .left) in
     rw (add-one at) (omega arith)
 
 returns-2 : tie.Need-returns-2 Inv-loop μ-loop
 returns-2 c =
     let at = c .before .loop .at in
-    let e = at-end (c .before .before .args .bytes .now) at (omega arith) in
+    let e = at-end (c .before .before .before .before .args .bytes .now) at (omega arith) in
     omega arith
 
 pub line-length-spec : {M : Type 1} → statement M
@@ -56,6 +58,7 @@ line-length-spec =
     (tie.spec
     Inv-loop
     μ-loop
+    pass-row-requires
     loop-holds
     shared-slice-read-if1
     returns
