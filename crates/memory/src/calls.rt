@@ -1,5 +1,6 @@
 // Each call, an opening and the nets, over plain memory.
 use crate::record::give;
+use crate::record::pool_in;
 use crate::record::record_number;
 use accounting::Nets;
 use curve::constant_product::LpTokens;
@@ -9,7 +10,6 @@ use opening::open;
 use oracle::store;
 use rates::Rates;
 use refusal::ACCEPTED;
-use words::pool_of;
 use words::pool_words;
 use words::receipt_words;
 ghost use mathlib.Core.Path.{_≡_};
@@ -34,7 +34,7 @@ pub fn swap_on(
     if unreadable != ACCEPTED {
         return unreadable;
     }
-    let decision = pool_of(w).decide(ring, by_input, direction, amount, limit, clock);
+    let decision = pool_in(w).decide(ring, by_input, direction, amount, limit, clock);
     let update = decision.update;
     let number = give(pool, receipt, decision.after);
     store(ring, update);
@@ -59,7 +59,7 @@ pub fn change_on(
     if unreadable != ACCEPTED {
         return unreadable;
     }
-    let after = pool_of(w).change(is_deposit, lp, owned, limit0, limit1);
+    let after = pool_in(w).change(is_deposit, lp, owned, limit0, limit1);
     give(pool, receipt, after)
 }
 
@@ -77,7 +77,7 @@ pub fn settle_on(
     if unreadable != ACCEPTED {
         return unreadable;
     }
-    let after = pool_of(w).settle_creator_fee(share);
+    let after = pool_in(w).settle_creator_fee(share);
     give(pool, receipt, after)
 }
 
@@ -96,7 +96,7 @@ pub fn set_status_on(
     if unreadable != ACCEPTED {
         return unreadable;
     }
-    let after = pool_of(w).set_status(bit, flag);
+    let after = pool_in(w).set_status(bit, flag);
     give(pool, receipt, after)
 }
 
@@ -138,7 +138,7 @@ pub fn nets_on(pool: &[u64; 21], nets: &mut [u64; 2]) -> u64
     if unreadable != ACCEPTED {
         return unreadable;
     }
-    match pool_of(w).nets() {
+    match pool_in(w).nets() {
         Nets::Of(net0, net1) => {
             *nets = [net0, net1];
             ACCEPTED

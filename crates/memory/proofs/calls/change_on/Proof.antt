@@ -16,8 +16,8 @@ returns c =
     let a = k .before .before .args in
     no-record (a .pool .now) (a .ring .now) (a .receipt .now) (changeCall (a .is-deposit) (a .lp) (a .owned) (a .limit0) (a .limit1)) (k .record-number .result) (k .record-number .ensures) (c .if1 .taken)
 
-pool-of-requires : tie.Need-pool-of-requires
-pool-of-requires c κs = search needs
+pool-in-requires : tie.Need-pool-in-requires
+pool-in-requires c κs = search needs
 
 change-requires : tie.Need-change-requires
 change-requires c κs = search needs
@@ -33,7 +33,7 @@ returns-2 c =
     let a = n .before .before .args in
     alone-given (a .pool .now) (a .ring .now) (a .receipt .now) (changeCall (a .is-deposit) (a .lp) (a .owned) (a .limit0) (a .limit1)) (n .record-number .result) (n .record-number .ensures)
     (λ q. changeOf (a .is-deposit) q (a .lp .0) (a .owned .0) (a .limit0 .0) (a .limit1 .0))
-    (change-next (a .ring .now) (a .is-deposit) (a .lp) (a .owned) (a .limit0) (a .limit1)) (k .before .if1 .left) (k .pool-of .ensures) (d .change .ensures) (c .give .ensures)
+    (change-next (a .ring .now) (a .is-deposit) (a .lp) (a .owned) (a .limit0) (a .limit1)) (k .before .if1 .left) (k .pool-in .ensures) (d .change .ensures) (c .give .ensures)
 
 pub change-on-spec : {M : Type 1} → statement M
 change-on-spec =
@@ -41,7 +41,7 @@ change-on-spec =
     (tie.spec
     record-number-requires
     returns
-    pool-of-requires
+    pool-in-requires
     change-requires
     give-requires
     returns-2)
