@@ -4,8 +4,6 @@
 // A call returns 0 and writes what it gives, or it returns its refusal's number and writes nothing.
 pub mod day_sheet;
 
-use curve::constant_product::LpTokens;
-use curve::constant_product::TradingTokens;
 use history::call::Call;
 use memory::calls::change_on;
 use memory::calls::nets_on;
@@ -82,16 +80,7 @@ pub extern "C" fn cp_swap_deposit(
     ensures { λ r. ⌜ memory r (now (pool .exit)) (now (ring .exit)) (now (receipt .exit)) ≡ calledOn (now (pool .entry)) (now (ring .entry)) (now (receipt .entry)) (Call.Deposit (record { 0 = lp }) (record { 0 = maximum0 }) (record { 0 = maximum1 })) ⌝ }
 {
     let is_deposit = true;
-    change_on(
-        pool,
-        ring,
-        receipt,
-        is_deposit,
-        LpTokens(lp),
-        LpTokens(0),
-        TradingTokens(maximum0),
-        TradingTokens(maximum1),
-    )
+    change_on(pool, ring, receipt, is_deposit, lp, 0, maximum0, maximum1)
 }
 
 // LP tokens, of those that the caller owns, back for tokens of both kinds.
@@ -113,10 +102,10 @@ pub extern "C" fn cp_swap_withdraw(
         ring,
         receipt,
         is_deposit,
-        LpTokens(lp),
-        LpTokens(owned),
-        TradingTokens(minimum0),
-        TradingTokens(minimum1),
+        lp,
+        owned,
+        minimum0,
+        minimum1,
     )
 }
 

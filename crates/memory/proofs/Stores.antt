@@ -11,8 +11,6 @@ use Rattle.refusal.proofs.Stops.{outcome-stop, outcome-go}
 use Rattle.rates.specs.declared.Rates.{Rates}
 use Rattle.accounting.specs.declared.Nets.{Nets}
 use Rattle.accounting.specs.Counters.{netsAnswer}
-use Rattle.curve.specs.declared.constant_product.LpTokens.{LpTokens}
-use Rattle.curve.specs.declared.constant_product.TradingTokens.{TradingTokens}
 use Rattle.pool.specs.declared.state.Pool.{Pool}
 use Rattle.pool.specs.declared.state.After.{After}
 use Rattle.pool.specs.declared.swap.Decision.{Decision}
@@ -119,8 +117,8 @@ module _ (p e r : List ℕ) (c : Call) (n : ℕ) (read : n ≡ first (recordTest
 
 -- ---- a deposit or a withdrawal, which the ring has no part in
 pub change-next :
-    (e : List ℕ) (isDeposit : Bool) (lp owned : LpTokens) (limit0 limit1 : TradingTokens) (q : Pool)
-    → done (changeOf isDeposit q (lp .0) (owned .0) (limit0 .0) (limit1 .0)) e ≡ next (stateOf q e) (changeCall isDeposit lp owned limit0 limit1)
+    (e : List ℕ) (isDeposit : Bool) (lp owned limit0 limit1 : ℕ) (q : Pool)
+    → done (changeOf isDeposit q lp owned limit0 limit1) e ≡ next (stateOf q e) (changeCall isDeposit lp owned limit0 limit1)
 unfolding next
 change-next e true lp owned limit0 limit1 q = refl
 change-next e false lp owned limit0 limit1 q = refl

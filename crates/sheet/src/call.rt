@@ -1,6 +1,4 @@
 // The call that a row asks for, by its kind (document 01, 'The day sheet').
-use curve::constant_product::LpTokens;
-use curve::constant_product::TradingTokens;
 use memory::calls::change_on;
 use memory::calls::set_status_on;
 use memory::calls::settle_on;
@@ -62,26 +60,8 @@ pub(crate) fn call_for(
     match kind {
         2 => swap_on(pool, ring, receipt, true, a, b, c, d),
         3 => swap_on(pool, ring, receipt, false, a, b, c, d),
-        4 => change_on(
-            pool,
-            ring,
-            receipt,
-            true,
-            LpTokens(a),
-            LpTokens(0),
-            TradingTokens(b),
-            TradingTokens(c),
-        ),
-        5 => change_on(
-            pool,
-            ring,
-            receipt,
-            false,
-            LpTokens(a),
-            LpTokens(b),
-            TradingTokens(c),
-            TradingTokens(d),
-        ),
+        4 => change_on(pool, ring, receipt, true, a, 0, b, c),
+        5 => change_on(pool, ring, receipt, false, a, b, c, d),
         6 => settle_on(pool, ring, receipt, share),
         _ => set_status_on(pool, ring, receipt, a, b),
     }
