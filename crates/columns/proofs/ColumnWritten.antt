@@ -44,8 +44,27 @@ none-written [] n h = refl
 none-written (byte ∷ part) n h = absurd (omega arith)
 
 -- one byte more before it
-pub more-written : (part : List ℕ) (at rest : ℕ) → at < length part → blanksBefore at (rest / 10) ++ drop at (set part at (digitOrBlank rest)) ≡ blanksBefore (suc at) rest ++ drop (suc at) part
+more-written : (part : List ℕ) (at rest : ℕ) → at < length part → blanksBefore at (rest / 10) ++ drop at (set part at (digitOrBlank rest)) ≡ blanksBefore (suc at) rest ++ drop (suc at) part
 more-written part at rest h = rw (drop-set part at (digitOrBlank rest) h, one-more at rest, append-assoc)
+
+-- two bytes more before it
+pub two-written :
+    (part : List ℕ) (at rest : ℕ) → 1 < at → at < length part
+    → blanksBefore (at - 2) (rest / 100) ++ drop (at - 2) (set (set part (at - 1) (digitOrBlank rest)) (at - 2) (digitOrBlank (rest / 10))) ≡ blanksBefore at rest ++ drop at part
+two-written part at rest h k =
+    let once = set part (at - 1) (digitOrBlank rest) in
+    let hundredth : rest / 100 ≡ rest / 10 / 10 = omega arith in
+    let first : suc (at - 1) ≡ at = omega arith in
+    let second : suc (at - 2) ≡ at - 1 = omega arith in
+    rw hundredth
+    (more-written once (at - 2) (rest / 10) (simp length-set (omega arith))
+    ∙ (ap (λ (i : ℕ). blanksBefore i (rest / 10) ++ drop i once) second
+    ∙ (more-written part (at - 1) rest (omega arith) ∙ ap (λ (i : ℕ). blanksBefore i rest ++ drop i part) first)))
+
+-- the first byte, where one is left
+pub first-written : (part : List ℕ) (rest : ℕ) → 0 < length part → set part 0 (digitOrBlank rest) ≡ blanksBefore 1 rest ++ drop 1 part
+unfolding blanksBefore
+first-written part rest h = more-written part 0 rest h
 
 -- ---- lengths
 pub blanks-length : (width n : ℕ) → length (blanksBefore width n) ≡ width

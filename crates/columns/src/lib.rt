@@ -1,7 +1,7 @@
 // Numbers in columns of the day sheet: decimal, right-justified, blanks before, at least one digit.
 ghost use mathlib.Core.Path.{_≡_};
 ghost use mathlib.Core.Bool.{cond};
-ghost use Prim.Native.Nat.{_+_, _*_, _%_, _≤_, _<_};
+ghost use Prim.Native.Nat.{_+_, _*_, _/_, _%_, _≤_, _<_};
 ghost use lib.Dec.{eqb};
 ghost use lib.ListN.{length, getD, drop};
 ghost use denote.Ref.{ptr};
@@ -92,14 +92,24 @@ fn last_digit(number: u64) -> u8
     b'0' + (number % 10) as u8
 }
 
-// The last digit of what is left of a number; a blank where nothing is left.
-fn digit_or_blank(rest: u64) -> u8
+// The last digit of what is left of a number, taken from its last two; a blank where nothing is left.
+fn ones_or_blank(rest: u64) -> u8
     ensures { λ r. ⌜ r ≡ cond (eqb rest 0) blank (digitByte (rest % 10)) ⌝ }
 {
-    if rest == 0 { b' ' } else { last_digit(rest) }
+    let pair = (rest % 100) as u8;
+    if rest == 0 { b' ' } else { b'0' + pair % 10 }
+}
+
+// The digit before the last; a blank where there is none.
+fn tens_or_blank(rest: u64) -> u8
+    ensures { λ r. ⌜ r ≡ cond (eqb (rest / 10) 0) blank (digitByte (rest / 10 % 10)) ⌝ }
+{
+    let pair = (rest % 100) as u8;
+    if rest < 10 { b' ' } else { b'0' + pair / 10 }
 }
 
 // A column from its last digit to its first blank; a number with more digits than bytes loses the highest.
+// Two digits a step, so that half as many divisions wait for one another.
 fn write_digits(part: &mut [u8], value: u64)
     ensures { λ r. ⌜ now (part .exit) ≡ column (length (now (part .entry))) value ⌝ }
 {
@@ -109,10 +119,14 @@ fn write_digits(part: &mut [u8], value: u64)
     let mut at = part.len() - 1;
     part[at] = last_digit(value);
     let mut rest = value / 10;
-    while 0 < at {
-        at -= 1;
-        part[at] = digit_or_blank(rest);
-        rest /= 10;
+    while 1 < at {
+        part[at - 1] = ones_or_blank(rest);
+        part[at - 2] = tens_or_blank(rest);
+        at -= 2;
+        rest /= 100;
+    }
+    if 0 < at {
+        part[0] = ones_or_blank(rest);
     }
 }
 
