@@ -24,7 +24,8 @@ use Rattle.pool.specs.State.{net0, net1, creatorRate, refused, decided, Done}
 use Rattle.pool.specs.Swap.{netIn, netOut, closedTests, modelTests, netTests, bookTests, swapReceipt, swapped}
 use Rattle.pool.specs.SwapBaseInput.{inputFront, minimumTests, inputTests, inputAt, swapBaseInput}
 use Rattle.pool.specs.SwapBaseOutput.{outputFront, outputTests, outputAt, swapBaseOutput}
-use Rattle.pool.specs.Liquidity.{amountTests, depositFront, depositLast, depositTests, deposited, depositAt, deposit, withdrawFront, withdrawLast, withdrawTests, withdrawn, withdrawAt, withdraw}
+use Rattle.liquidity.specs.Worth.{amountTests}
+use Rattle.pool.specs.Liquidity.{depositFront, depositLast, depositTests, deposited, depositAt, deposit, withdrawFront, withdrawLast, withdrawTests, withdrawn, withdrawAt, withdraw}
 use Rattle.pool.specs.Settlement.{paymentTests, settlementTests, settlementReceipt, settled, settlementAt, settlement}
 use Rattle.pool.specs.Status.{statusTests, withFlag, setStatus}
 use Rattle.pool.specs.Opening.{zeroEntries, openPool, zeroPool, openingFront, openingTests, opening}

@@ -16,7 +16,8 @@ use Rattle.pool.specs.Opening.{zeroEntries, openPool, zeroPool, openingFront, o
 use Rattle.pool.specs.Swap.{closedTests, modelTests, netTests, bookTests, bookedPool, swapReceipt, swapped}
 use Rattle.pool.specs.SwapBaseInput.{inputFront, minimumTests, inputTests, inputAt, swapBaseInput}
 use Rattle.pool.specs.SwapBaseOutput.{outputFront, outputTests, outputAt, swapBaseOutput}
-use Rattle.pool.specs.Liquidity.{amountTests, depositFront, depositLast, depositTests, depositAt, deposit, withdrawFront, withdrawLast, withdrawTests, withdrawAt, withdraw}
+use Rattle.liquidity.specs.Worth.{amountTests}
+use Rattle.pool.specs.Liquidity.{depositFront, depositLast, depositTests, depositAt, deposit, withdrawFront, withdrawLast, withdrawTests, withdrawAt, withdraw}
 use Rattle.pool.specs.Settlement.{settlementReceipt, paymentTests, settlementTests, settledCounters, settlementAt, settlement}
 use Rattle.pool.specs.Status.{flagged, withStatus, statusTests, setStatus}
 use Rattle.history.specs.Run.{next}

@@ -2,61 +2,26 @@
 -- Assumes nothing.
 use mathlib.Core.Path.{_≡_, refl, sym, ap, subst, _∙_}
 use mathlib.Core.Bool.{Bool, true, false}
-use mathlib.Core.List.{[], _∷_}
 use Prim.Native.Nat.{ℕ, _≤_, min}
 use native.Mathlib.Omega.{arith}
-use lib.Dec.{eqb}
-use borrow.Author.Tests.{ltb-true, ne-eqb}
-use Rattle.refusal.specs.Refusal.{ZeroTradingTokens, Panic}
-use Rattle.refusal.specs.Tests.{Tests, _then_, first, U64, past, outcome}
+use Rattle.refusal.specs.Tests.{Tests, _then_, first, past, outcome}
 use Rattle.refusal.proofs.Stops.{numbered, first-stage, outcome-stop, outcome-go, outcome-then, outcome-map, outcome-elim}
-use Rattle.answer.specs.declared.Answer.the-variants as A
 use Rattle.curve.specs.declared.constant_product.RoundDirection.{RoundDirection}
 use Rattle.curve.specs.declared.constant_product.RoundDirection.the-variants.{Floor, Ceiling}
 use Rattle.curve.specs.declared.constant_product.TradingTokenResult.{TradingTokenResult}
 use Rattle.curve.specs.declared.constant_product.TradingTokenResult.the-variants as T
 use Rattle.curve.specs.declared.constant_product.TradingTokens.{TradingTokens}
-use Rattle.curve.specs.ConstantProduct.{lpAmount, lpPart, tokens}
+use Rattle.curve.specs.ConstantProduct.{lpAmount, tokens}
 use Rattle.accounting.specs.declared.Nets.{Nets}
 use Rattle.accounting.specs.declared.Nets.the-variants as N
 use Rattle.accounting.specs.Counters.{counterTests, netsAnswer}
 use Rattle.pool.specs.declared.state.Pool.{Pool}
 use Rattle.pool.specs.declared.state.After.{After}
 use Rattle.pool.specs.State.{net0, net1, refused, decided}
-use Rattle.pool.specs.Liquidity.{amountTests, depositFront, depositTests, depositAt, deposit, withdrawFront, withdrawLast, withdrawTests, withdrawn, withdrawAt, withdraw}
+use Rattle.liquidity.specs.Worth.{amountTests, tokenAmounts}
+use Rattle.pool.specs.Liquidity.{depositFront, depositTests, depositAt, deposit, withdrawFront, withdrawLast, withdrawTests, withdrawn, withdrawAt, withdraw}
 use Rattle.pool.specs.Change.{changeOf}
-use Rattle.pool.specs.Stages.{isNone, someTokens, tokenAmounts, rounding, changeFront, changeAt}
-
--- ---- both tokens' parts, which are to be some
--- an amount past u64 is not 0
-past-some : (n : ℕ) → past n ≡ true → eqb n 0 ≡ false
-past-some n e = ne-eqb n 0 (omega (arith, ltb-true U64 n e))
-
--- supply 0 is the same for both parts; an amount of 0 in the second comes before the first's being past u64
-some-parts :
-    (none past0 past1 : Bool) (a0 a1 : ℕ) → (past0 ≡ true → eqb a0 0 ≡ false) → (past1 ≡ true → eqb a1 0 ≡ false)
-    → someTokens
-    (outcome ((none, ZeroTradingTokens) ∷ (past0, Panic) ∷ []) A.Refused (A.Amount a0))
-    (outcome ((none, ZeroTradingTokens) ∷ (past1, Panic) ∷ []) A.Refused (A.Amount a1))
-    ≡ outcome
-    ((none, ZeroTradingTokens) ∷ (eqb a0 0, ZeroTradingTokens) ∷ (eqb a1 0, ZeroTradingTokens) ∷ (past0, Panic) ∷ (past1, Panic) ∷ [])
-    T.Refused
-    (T.Amounts (tokens a0) (tokens a1))
-unfolding outcome someTokens isNone
-some-parts true past0 past1 a0 a1 h0 h1 = refl
-some-parts false true true a0 a1 h0 h1 = rw (h0 refl, h1 refl)
-some-parts false true false a0 a1 h0 h1 = rw (h0 refl)
-some-parts false false true a0 a1 h0 h1 = rw (h1 refl)
-some-parts false false false a0 a1 h0 h1 = refl
-
-pub some-tokens :
-    (direction : RoundDirection) (lp supply n0 n1 : ℕ)
-    → someTokens (lpPart direction lp supply n0) (lpPart direction lp supply n1) ≡ tokenAmounts direction lp supply n0 n1
-unfolding lpPart tokenAmounts amountTests
-some-tokens direction lp supply n0 n1 =
-    let a0 = lpAmount direction lp supply n0 in
-    let a1 = lpAmount direction lp supply n1 in
-    some-parts (eqb supply 0) (past a0) (past a1) a0 a1 (past-some a0) (past-some a1)
+use Rattle.pool.specs.Stages.{rounding, changeFront, changeAt}
 
 -- ---- an LP amount's worth: the nets, and its part of each
 pub record Worth : Type 0 where

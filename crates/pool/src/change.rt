@@ -1,6 +1,5 @@
 // Deposits and withdrawals on one path: an LP amount's worth in both tokens is paid in, or paid out.
 use crate::deposit::deposit_front;
-use crate::liquidity::token_amounts;
 use crate::state::After;
 use crate::state::Pool;
 use crate::withdraw::capped;
@@ -10,6 +9,7 @@ use curve::constant_product::LpTokens;
 use curve::constant_product::RoundDirection;
 use curve::constant_product::TradingTokenResult;
 use curve::constant_product::TradingTokens;
+use liquidity::token_amounts;
 use refusal::ACCEPTED;
 ghost use mathlib.Core.Path.{_≡_};
 ghost use Prim.Native.Nat.{_≤_};

@@ -1,11 +1,11 @@
--- `pool::liquidity::some_tokens` meets its contract.
+-- `liquidity::some_tokens` meets its contract.
 -- Assumes nothing.
 use mathlib.Core.Path.{_≡_, sym, _∙_}
 use mathlib.Core.Bool.{false}
-use Rattle.pool.specs.Stages.{isNone, someTokens}
+use Rattle.liquidity.specs.Stages.{isNone, someTokens}
 use borrow.Author.Needs.{needs}
-use Rattle.pool.proofs.liquidity.some_tokens.Statement.{statement}
-use Rattle.pool.proofs.liquidity.some_tokens.Tie as tie
+use Rattle.liquidity.proofs.some_tokens.Statement.{statement}
+use Rattle.liquidity.proofs.some_tokens.Tie as tie
 
 is-none-requires : tie.Need-is-none-requires
 is-none-requires c κs = search needs

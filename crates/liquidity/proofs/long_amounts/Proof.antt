@@ -1,11 +1,11 @@
--- `pool::liquidity::token_amounts` meets its contract.
+-- `liquidity::long_amounts` meets its contract.
 -- Assumes nothing.
 use mathlib.Core.Path.{_∙_}
-use Rattle.pool.specs.Stages.{someTokens}
-use Rattle.pool.proofs.LiquidityLaws.{some-tokens}
+use Rattle.liquidity.specs.Stages.{someTokens}
+use Rattle.liquidity.proofs.Parts.{some-tokens}
 use borrow.Author.Needs.{needs}
-use Rattle.pool.proofs.liquidity.token_amounts.Statement.{statement}
-use Rattle.pool.proofs.liquidity.token_amounts.Tie as tie
+use Rattle.liquidity.proofs.long_amounts.Statement.{statement}
+use Rattle.liquidity.proofs.long_amounts.Tie as tie
 
 lp-tokens-to-one-token-requires : tie.Need-lp-tokens-to-one-token-requires
 lp-tokens-to-one-token-requires c κs = search needs
@@ -22,8 +22,8 @@ returns c =
     ∙ (λ i. someTokens (c .before .before .lp-tokens-to-one-token .ensures i) (c .before .lp-tokens-to-one-token2 .ensures i))
     ∙ some-tokens _ _ _ _ _
 
-pub token-amounts-spec : {M : Type 1} → statement M
-token-amounts-spec =
+pub long-amounts-spec : {M : Type 1} → statement M
+long-amounts-spec =
     tie.close
     (tie.spec
     lp-tokens-to-one-token-requires

@@ -1,10 +1,10 @@
--- `pool::liquidity::is_none` meets its contract, by the cases of the answer.
+-- `liquidity::is_none` meets its contract, by the cases of the answer.
 -- Assumes nothing.
 use mathlib.Core.Path.{sym, ap}
-use Rattle.pool.specs.Stages.{isNone}
+use Rattle.liquidity.specs.Stages.{isNone}
 use borrow.Author.Needs.{needs}
-use Rattle.pool.proofs.liquidity.is_none.Statement.{statement}
-use Rattle.pool.proofs.liquidity.is_none.Tie as tie
+use Rattle.liquidity.proofs.is_none.Statement.{statement}
+use Rattle.liquidity.proofs.is_none.Tie as tie
 
 enum-known-answer : tie.Need-enum-known-answer
 enum-known-answer c = search needs

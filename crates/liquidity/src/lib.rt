@@ -1,0 +1,123 @@
+// What deposits and withdrawals share: an LP amount's worth in both tokens (document 01, 'Deposit' and 'Withdrawal').
+use answer::Answer;
+use curve::constant_product::LpTokens;
+use curve::constant_product::RoundDirection;
+use curve::constant_product::TradingTokenResult;
+use curve::constant_product::TradingTokens;
+use curve::constant_product::both;
+use curve::constant_product::lp_tokens_to_one_token;
+use refusal::ZERO_TRADING_TOKENS;
+use wide::widening_mul;
+ghost use mathlib.Core.Path.{_≡_};
+ghost use Prim.Native.Nat.{_/_, _%_, _<_};
+ghost use Rattle.answer.specs.declared.Answer.the-variants.{Amount};
+ghost use Rattle.curve.specs.Stages.{rounded};
+ghost use Rattle.liquidity.specs.Worth.{tokenAmounts};
+ghost use Rattle.liquidity.specs.Stages.{isNone, someTokens, raiseOf};
+
+// None, or an amount of 0.
+fn is_none(answer: Answer) -> bool
+    ensures { λ r. ⌜ r ≡ isNone answer ⌝ }
+{
+    match answer {
+        Answer::Amount(amount) => amount == 0,
+        Answer::Refused(number) => number == ZERO_TRADING_TOKENS,
+    }
+}
+
+// None or an amount 0, 4; an amount past u64, 11; else both.
+fn some_tokens(amount0: Answer, amount1: Answer) -> TradingTokenResult
+    ensures { λ r. ⌜ r ≡ someTokens amount0 amount1 ⌝ }
+{
+    if is_none(amount0) {
+        return TradingTokenResult::Refused(ZERO_TRADING_TOKENS);
+    }
+    if is_none(amount1) {
+        return TradingTokenResult::Refused(ZERO_TRADING_TOKENS);
+    }
+    both(amount0, amount1)
+}
+
+// Both tokens' parts, each in a long division.
+fn long_amounts(
+    lp: LpTokens,
+    supply: LpTokens,
+    net0: TradingTokens,
+    net1: TradingTokens,
+    direction: RoundDirection,
+) -> TradingTokenResult
+    ensures { λ r. ⌜ r ≡ tokenAmounts direction (lp .0) (supply .0) (net0 .0) (net1 .0) ⌝ }
+{
+    let amount0 = lp_tokens_to_one_token(lp, supply, net0, direction);
+    let amount1 = lp_tokens_to_one_token(lp, supply, net1, direction);
+    some_tokens(amount0, amount1)
+}
+
+// What rounding adds to a quotient that is not 0: 1 where it is up and there is a remainder.
+fn raise(remainder: u64, direction: RoundDirection) -> u64
+    ensures { λ r. ⌜ r ≡ raiseOf direction remainder ⌝ }
+{
+    match direction {
+        RoundDirection::Floor => 0,
+        RoundDirection::Ceiling => {
+            if remainder == 0 {
+                return 0;
+            }
+            1
+        }
+    }
+}
+
+// A product of 64 bits divided and rounded.
+fn short_part(product: u64, whole: u64, direction: RoundDirection) -> u64
+    requires { ⌜ (0 < whole) × (0 < product / whole) ⌝ }
+    ensures { λ r. ⌜ r ≡ rounded direction (product / whole) (product % whole) ⌝ }
+{
+    product / whole + raise(product % whole, direction)
+}
+
+// Both tokens' parts where the products have 64 bits: each takes one machine division, and none is past u64.
+fn short_amounts(
+    product0: u64,
+    product1: u64,
+    whole: u64,
+    direction: RoundDirection,
+) -> TradingTokenResult
+    requires { ⌜ 0 < whole ⌝ }
+    ensures { λ r. ⌜ r ≡ someTokens (Amount (rounded direction (product0 / whole) (product0 % whole))) (Amount (rounded direction (product1 / whole) (product1 % whole))) ⌝ }
+{
+    if product0 / whole == 0 {
+        return TradingTokenResult::Refused(ZERO_TRADING_TOKENS);
+    }
+    if product1 / whole == 0 {
+        return TradingTokenResult::Refused(ZERO_TRADING_TOKENS);
+    }
+    let amount0 = short_part(product0, whole, direction);
+    let amount1 = short_part(product1, whole, direction);
+    TradingTokenResult::Amounts(TradingTokens(amount0), TradingTokens(amount1))
+}
+
+// Both tokens' parts of an LP amount: none or an amount 0, 4; an amount past u64, 11.
+pub fn token_amounts(
+    lp: LpTokens,
+    supply: LpTokens,
+    net0: TradingTokens,
+    net1: TradingTokens,
+    direction: RoundDirection,
+) -> TradingTokenResult
+    ensures { λ r. ⌜ r ≡ tokenAmounts direction (lp .0) (supply .0) (net0 .0) (net1 .0) ⌝ }
+{
+    let whole = supply.0;
+    let product0 = widening_mul(lp.0, net0.0);
+    let product1 = widening_mul(lp.0, net1.0);
+    let low0 = product0.low;
+    let low1 = product1.low;
+    if product0.high == 0 {
+        if product1.high == 0 {
+            if whole != 0 {
+                return short_amounts(low0, low1, whole, direction);
+            }
+        }
+    }
+    long_amounts(lp, supply, net0, net1, direction)
+}
