@@ -3,9 +3,8 @@
 use mathlib.Core.Path.{_≡_, refl, sym, ap, subst, _∙_}
 use mathlib.Core.Bool.{Bool, true, false, cond, _||_}
 use mathlib.Core.List.{[], _∷_}
-use mathlib.Core.Logic.{⊎-elim}
 use Prim.Native.Nat.{ℕ, _+_, _*_, _/_, _%_, _^_, _≤_, _<_}
-use native.Mathlib.Nat.{div-add-mod', div-le-self, eq-zero-or-pos, mod-lt, mul-le-mul-left, pos-of-ne-zero}
+use native.Mathlib.Nat.{div-add-mod', div-le-self, le-div-iff-mul-le, mod-lt, mul-le-mul-left}
 use native.Mathlib.Omega.{arith}
 use lib.Dec.{eqb}
 use borrow.Author.Tests.{ltb-true, le-ltb, ne-eqb, eqb-false}
@@ -55,16 +54,7 @@ some-tokens direction lp supply n0 n1 =
     some-parts (eqb supply 0) (past a0) (past a1) a0 a1 (past-some a0) (past-some a1)
 
 -- ---- of products of 64 bits
--- a quotient of 0 is not raised, and any other by what its remainder adds
-rounded-none : (direction : RoundDirection) (q r : ℕ) → q ≡ 0 → rounded direction q r ≡ 0
-unfolding rounded
-rounded-none Floor q r e = e
-rounded-none Ceiling q r e = rw e (go (eqb r 0))
-  where
-    go : (b : Bool) → cond (b || true) 0 (0 + 1) ≡ (let zero : ℕ = 0 in zero)
-    go true = refl
-    go false = refl
-
+-- a quotient that is not 0 is raised by what its remainder adds
 pub raised : (direction : RoundDirection) (q r : ℕ) → 0 < q → q + raiseOf direction r ≡ rounded direction q r
 unfolding rounded raiseOf
 raised Floor q r h = omega arith
@@ -90,44 +80,33 @@ raise-fits Ceiling n d hd fits = go (eqb (n % d) 0) refl
         let two : 2 ≤ d = omega (arith, mod-lt n hd) in
         omega (arith, mul-le-mul-left (n / d) two, div-add-mod' n d)
 
--- the answers of two short parts
-module _ (direction : RoundDirection) (q0 r0 q1 r1 : ℕ) where
-  pub first-none : q0 ≡ 0 → T.Refused ZeroTradingTokens ≡ someTokens (A.Amount (rounded direction q0 r0)) (A.Amount (rounded direction q1 r1))
-  unfolding someTokens isNone
-  first-none e = rw (rounded-none direction q0 r0 e)
+-- a product that is not below the divisor has a quotient that is not 0
+pub quotient-some : (n d : ℕ) → 0 < d → d ≤ n → 0 < n / d
+quotient-some n d hd le = le-div-iff-mul-le {k = d} {x = 1} {y = n} hd .1 (omega arith)
 
-  pub second-none :
-      0 < q0 → q1 ≡ 0 → T.Refused ZeroTradingTokens ≡ someTokens (A.Amount (rounded direction q0 r0)) (A.Amount (rounded direction q1 r1))
-  unfolding someTokens isNone
-  second-none h e = rw (rounded-some direction q0 r0 h, rounded-none direction q1 r1 e)
+-- two parts that are some
+pub both-some :
+    (direction : RoundDirection) (q0 r0 q1 r1 : ℕ) → 0 < q0 → 0 < q1
+    → T.Amounts (tokens (rounded direction q0 r0)) (tokens (rounded direction q1 r1))
+    ≡ someTokens (A.Amount (rounded direction q0 r0)) (A.Amount (rounded direction q1 r1))
+unfolding someTokens isNone
+both-some direction q0 r0 q1 r1 h k = rw (rounded-some direction q0 r0 h, rounded-some direction q1 r1 k)
 
-  pub both-some :
-      0 < q0 → 0 < q1
-      → T.Amounts (tokens (rounded direction q0 r0)) (tokens (rounded direction q1 r1))
-      ≡ someTokens (A.Amount (rounded direction q0 r0)) (A.Amount (rounded direction q1 r1))
-  unfolding someTokens isNone
-  both-some h k = rw (rounded-some direction q0 r0 h, rounded-some direction q1 r1 k)
-
--- a part whose product has no high half is what a long division gives
+-- a short product's part is what a long division gives
 module _ (lp supply net : ℕ) (direction : RoundDirection) (n : U128) (product : value n ≡ lp * net) where
-  rounded-fits : n .low < 2 ^ 64 → 0 < supply → past (rounded direction (n .low / supply) (n .low % supply)) ≡ false
-  rounded-fits l h =
-      ⊎-elim
-      (λ (e : n .low / supply ≡ 0). rw (rounded-none direction (n .low / supply) (n .low % supply) e))
-      (λ (k : 0 < n .low / supply).
-      subst (λ (x : ℕ). past x ≡ false) (raised direction (n .low / supply) (n .low % supply) k)
-      (not-past (raise-fits direction (n .low) supply h l)))
-      (eq-zero-or-pos (n .low / supply))
+  rounded-fits : n .low < 2 ^ 64 → 0 < supply → supply ≤ n .low → past (rounded direction (n .low / supply) (n .low % supply)) ≡ false
+  rounded-fits l h k =
+      subst (λ (x : ℕ). past x ≡ false) (raised direction (n .low / supply) (n .low % supply) (quotient-some (n .low) supply h k))
+      (not-past (raise-fits direction (n .low) supply h l))
     where
       not-past : {x : ℕ} → x < 2 ^ 64 → past x ≡ false
       not-past {x} b = le-ltb U64 x (omega arith)
 
   pub short-is :
-      n .low < 2 ^ 64 → n .high ≡ 0 → (supply ≡ 0 → ⊥)
+      n .low < 2 ^ 64 → n .high ≡ 0 → (0 < supply) × (supply ≤ n .low)
       → A.Amount (rounded direction (n .low / supply) (n .low % supply)) ≡ lpPart direction lp supply net
   unfolding roundedAnswer outcome
-  short-is l h f =
-      let some = pos-of-ne-zero f in
-      let whole : n .low ≡ value n = omega arith in
-      sym (rw (rounded-fits l some))
-      ∙ part-fits lp supply net direction n product l (rw h some) (ap (λ (k : ℕ). divided k supply) whole)
+  short-is l short some =
+      let low-is-all : n .low ≡ value n = omega arith in
+      sym (rw (rounded-fits l (some .0) (some .1)))
+      ∙ part-fits lp supply net direction n product l (rw short (some .0)) (ap (λ (k : ℕ). divided k supply) low-is-all)

@@ -8,9 +8,9 @@ use curve::constant_product::both;
 use curve::constant_product::lp_tokens_to_one_token;
 use refusal::ZERO_TRADING_TOKENS;
 use wide::widening_mul;
+ghost use mathlib.Core.Bool.{true};
 ghost use mathlib.Core.Path.{_≡_};
-ghost use Prim.Native.Nat.{_/_, _%_, _<_};
-ghost use Rattle.answer.specs.declared.Answer.the-variants.{Amount};
+ghost use Prim.Native.Nat.{_/_, _%_, _≤_, _<_};
 ghost use Rattle.curve.specs.Stages.{rounded};
 ghost use Rattle.liquidity.specs.Worth.{tokenAmounts};
 ghost use Rattle.liquidity.specs.Stages.{isNone, someTokens, raiseOf};
@@ -68,36 +68,26 @@ fn raise(remainder: u64, direction: RoundDirection) -> u64
     }
 }
 
-// A product of 64 bits divided and rounded.
+// Whether a product's part is some: the quotient is not 0.
+fn is_some(product: u64, whole: u64) -> bool
+    ensures { λ r. ⌜ (r ≡ true → (0 < whole) × (whole ≤ product)) ⌝ }
+{
+    if whole == 0 {
+        return false;
+    }
+    whole <= product
+}
+
+// A product of 64 bits divided and rounded, in one machine division. With a remainder the divisor is above 1, so that no part is past u64.
 fn short_part(product: u64, whole: u64, direction: RoundDirection) -> u64
-    requires { ⌜ (0 < whole) × (0 < product / whole) ⌝ }
+    requires { ⌜ (0 < whole) × (whole ≤ product) ⌝ }
     ensures { λ r. ⌜ r ≡ rounded direction (product / whole) (product % whole) ⌝ }
 {
     product / whole + raise(product % whole, direction)
 }
 
-// Both tokens' parts where the products have 64 bits: each takes one machine division, and none is past u64.
-fn short_amounts(
-    product0: u64,
-    product1: u64,
-    whole: u64,
-    direction: RoundDirection,
-) -> TradingTokenResult
-    requires { ⌜ 0 < whole ⌝ }
-    ensures { λ r. ⌜ r ≡ someTokens (Amount (rounded direction (product0 / whole) (product0 % whole))) (Amount (rounded direction (product1 / whole) (product1 % whole))) ⌝ }
-{
-    if product0 / whole == 0 {
-        return TradingTokenResult::Refused(ZERO_TRADING_TOKENS);
-    }
-    if product1 / whole == 0 {
-        return TradingTokenResult::Refused(ZERO_TRADING_TOKENS);
-    }
-    let amount0 = short_part(product0, whole, direction);
-    let amount1 = short_part(product1, whole, direction);
-    TradingTokenResult::Amounts(TradingTokens(amount0), TradingTokens(amount1))
-}
-
-// Both tokens' parts of an LP amount: none or an amount 0, 4; an amount past u64, 11.
+// Both tokens' parts of an LP amount: none or an amount 0, 4; an amount past u64, 11. Short products first, and only where both parts are
+// some: these go through no answer in memory. The high halves are tested by themselves, since they seldom change from call to call.
 pub fn token_amounts(
     lp: LpTokens,
     supply: LpTokens,
@@ -112,11 +102,17 @@ pub fn token_amounts(
     let product1 = widening_mul(lp.0, net1.0);
     let low0 = product0.low;
     let low1 = product1.low;
-    if product0.high == 0 {
-        if product1.high == 0 {
-            if whole != 0 {
-                return short_amounts(low0, low1, whole, direction);
-            }
+    if product0.high != 0 {
+        return long_amounts(lp, supply, net0, net1, direction);
+    }
+    if product1.high != 0 {
+        return long_amounts(lp, supply, net0, net1, direction);
+    }
+    if is_some(low0, whole) {
+        if is_some(low1, whole) {
+            let amount0 = short_part(low0, whole, direction);
+            let amount1 = short_part(low1, whole, direction);
+            return TradingTokenResult::Amounts(TradingTokens(amount0), TradingTokens(amount1));
         }
     }
     long_amounts(lp, supply, net0, net1, direction)

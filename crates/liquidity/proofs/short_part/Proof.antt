@@ -2,7 +2,7 @@
 -- Assumes nothing.
 use mathlib.Core.Path.{ap, sym, subst, _∙_}
 use Prim.Native.Nat.{ℕ, _+_, _/_, _^_, _<_}
-use Rattle.liquidity.proofs.Parts.{raised, raise-fits}
+use Rattle.liquidity.proofs.Parts.{raised, raise-fits, quotient-some}
 use borrow.Author.Needs.{needs}
 use Rattle.liquidity.proofs.short_part.Statement.{statement}
 use Rattle.liquidity.proofs.short_part.Tie as tie
@@ -28,7 +28,7 @@ add-result c =
 returns : tie.Need-returns
 returns c =
     let s = c .before in
-    ap (λ (k : ℕ). s .args .product / s .args .whole + k) (c .raise .ensures) ∙ raised _ _ _ (s .pre .1)
+    ap (λ (k : ℕ). s .args .product / s .args .whole + k) (c .raise .ensures) ∙ raised _ _ _ (quotient-some _ _ (s .pre .0) (s .pre .1))
 
 pub short-part-spec : {M : Type 1} → statement M
 short-part-spec = tie.close (tie.spec div-result rem-raise raise-requires add-result returns)
