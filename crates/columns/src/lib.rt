@@ -92,7 +92,8 @@ fn last_digit(number: u64) -> u8
     b'0' + (number % 10) as u8
 }
 
-// The last digit of what is left of a number, taken from its last two; a blank where nothing is left.
+// The last digit of what is left of a number; a blank where nothing is left. From its last two, as the tens are, so that one remainder
+// serves both.
 fn ones_or_blank(rest: u64) -> u8
     ensures { λ r. ⌜ r ≡ cond (eqb rest 0) blank (digitByte (rest % 10)) ⌝ }
 {

@@ -1,13 +1,13 @@
 -- Both tokens' parts, which are to be some: by long divisions, and of products of 64 bits.
 -- Assumes nothing.
 use mathlib.Core.Path.{_≡_, refl, sym, ap, subst, _∙_}
-use mathlib.Core.Bool.{Bool, true, false, cond, _||_}
+use mathlib.Core.Bool.{Bool, true, false, cond, not, _&&_, _||_}
 use mathlib.Core.List.{[], _∷_}
 use Prim.Native.Nat.{ℕ, _+_, _*_, _/_, _%_, _^_, _≤_, _<_}
 use native.Mathlib.Nat.{div-add-mod', div-le-self, le-div-iff-mul-le, mod-lt, mul-le-mul-left}
 use native.Mathlib.Omega.{arith}
-use lib.Dec.{eqb}
-use borrow.Author.Tests.{ltb-true, le-ltb, ne-eqb, eqb-false}
+use lib.Dec.{eqb, leb}
+use borrow.Author.Tests.{ltb-true, le-ltb, leb-true, ne-eqb, eqb-false}
 use Rattle.refusal.specs.Refusal.{ZeroTradingTokens, Panic}
 use Rattle.refusal.specs.Tests.{U64, past, outcome}
 use Rattle.wide.specs.declared.U128.{U128}
@@ -79,6 +79,15 @@ raise-fits Ceiling n d hd fits = go (eqb (n % d) 0) refl
         let some : 0 < n % d = omega (arith, eqb-false (n % d) 0 e) in
         let two : 2 ≤ d = omega (arith, mod-lt n hd) in
         omega (arith, mul-le-mul-left (n / d) two, div-add-mod' n d)
+
+-- a divisor that is not 0 nor above the product
+pub some-part : (n d : ℕ) → not (eqb d 0) && leb d n ≡ true → (0 < d) × (d ≤ n)
+some-part n d = go (eqb d 0) refl (leb d n) refl
+  where
+    go : (zero : Bool) → eqb d 0 ≡ zero → (le : Bool) → leb d n ≡ le → not zero && le ≡ true → (0 < d) × (d ≤ n)
+    go true e le f g = absurd (omega (arith, ltb-true 1 0 g))
+    go false e true f g = (omega (arith, eqb-false d 0 e), leb-true d n f)
+    go false e false f g = absurd (omega (arith, ltb-true 1 0 g))
 
 -- a product that is not below the divisor has a quotient that is not 0
 pub quotient-some : (n d : ℕ) → 0 < d → d ≤ n → 0 < n / d

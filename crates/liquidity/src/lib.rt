@@ -8,9 +8,10 @@ use curve::constant_product::both;
 use curve::constant_product::lp_tokens_to_one_token;
 use refusal::ZERO_TRADING_TOKENS;
 use wide::widening_mul;
-ghost use mathlib.Core.Bool.{true};
+ghost use mathlib.Core.Bool.{not, _&&_};
 ghost use mathlib.Core.Path.{_≡_};
 ghost use Prim.Native.Nat.{_/_, _%_, _≤_, _<_};
+ghost use lib.Dec.{eqb, leb};
 ghost use Rattle.curve.specs.Stages.{rounded};
 ghost use Rattle.liquidity.specs.Worth.{tokenAmounts};
 ghost use Rattle.liquidity.specs.Stages.{isNone, someTokens, raiseOf};
@@ -38,7 +39,7 @@ fn some_tokens(amount0: Answer, amount1: Answer) -> TradingTokenResult
     both(amount0, amount1)
 }
 
-// Both tokens' parts, each in a long division.
+// Both tokens' parts of any products, refusals too, by the curve's answers.
 fn long_amounts(
     lp: LpTokens,
     supply: LpTokens,
@@ -70,7 +71,7 @@ fn raise(remainder: u64, direction: RoundDirection) -> u64
 
 // Whether a product's part is some: the quotient is not 0.
 fn is_some(product: u64, whole: u64) -> bool
-    ensures { λ r. ⌜ (r ≡ true → (0 < whole) × (whole ≤ product)) ⌝ }
+    ensures { λ r. ⌜ r ≡ not (eqb whole 0) && leb whole product ⌝ }
 {
     if whole == 0 {
         return false;
@@ -87,7 +88,8 @@ fn short_part(product: u64, whole: u64, direction: RoundDirection) -> u64
 }
 
 // Both tokens' parts of an LP amount: none or an amount 0, 4; an amount past u64, 11. Short products first, and only where both parts are
-// some: these go through no answer in memory. The high halves are tested by themselves, since they seldom change from call to call.
+// some: these go through no answer in memory. The high halves are tested by themselves: whether they are 0 seldom
+// changes from call to call, so that the processor foresees it.
 pub fn token_amounts(
     lp: LpTokens,
     supply: LpTokens,

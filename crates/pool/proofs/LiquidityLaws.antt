@@ -4,7 +4,7 @@ use mathlib.Core.Path.{_≡_, refl, sym, ap, subst, _∙_}
 use mathlib.Core.Bool.{Bool, true, false}
 use Prim.Native.Nat.{ℕ, _≤_, min}
 use native.Mathlib.Omega.{arith}
-use Rattle.refusal.specs.Tests.{Tests, _then_, first, past, outcome}
+use Rattle.refusal.specs.Tests.{Tests, _then_, first, outcome}
 use Rattle.refusal.proofs.Stops.{numbered, first-stage, outcome-stop, outcome-go, outcome-then, outcome-map, outcome-elim}
 use Rattle.curve.specs.declared.constant_product.RoundDirection.{RoundDirection}
 use Rattle.curve.specs.declared.constant_product.RoundDirection.the-variants.{Floor, Ceiling}

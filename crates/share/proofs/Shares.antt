@@ -1,8 +1,11 @@
--- Parts of an amount by a divisor of at most 2 ^ 32: what is left of the amount is short enough to be scaled in 64 bits.
-use mathlib.Core.Path.{_≡_, sym, ap, _∙_, subst}
+-- Parts of an amount by a divisor of at most 2 ^ 32, in 64 bits: of a short amount at once, of another from its quotient and what is left.
+use mathlib.Core.Path.{_≡_, refl, sym, ap, _∙_, subst}
+use mathlib.Core.Bool.{Bool, true, false, _&&_}
 use Prim.Native.Nat.{ℕ, _+_, _-_, _*_, _/_, _%_, _^_, _≤_, _<_}
 use native.Mathlib.Nat.{mul-le-mul, mul-le-mul-left, le-trans, lt-of-le-of-lt, mod-lt, div-le-self, div-lt-iff-lt-mul, le-div-iff-mul-le}
 use native.Mathlib.Omega.{arith}
+use lib.Dec.{ltb, leb}
+use borrow.Author.Tests.{ltb-true, leb-true}
 use Rattle.divide.specs.Division.{ceilDiv}
 use Rattle.divide.proofs.Long.{floor-parted}
 use Rattle.math.specs.declared.ratio.Quotient.the-variants as Q
@@ -10,12 +13,18 @@ use Rattle.math.specs.Ratio.{ceilOf}
 use Rattle.math.proofs.Rounding.{floor-le, ceil-parted, share-floor-le, share-ceil-le, ceil-fits, ceil-past}
 
 -- a short amount times the whole
-pub short : (amount whole : ℕ) → amount < 2 ^ 44 → whole ≤ 2 ^ 20 → amount * whole + whole ≤ 2 ^ 64
-short amount whole ha hw =
-    let below : amount ≤ 2 ^ 44 - 1 = omega arith in
-    omega (arith, mul-le-mul below hw)
+pub short : (amount whole : ℕ) → ltb amount (2 ^ 44) && leb whole (2 ^ 20) ≡ true → amount * whole + whole ≤ 2 ^ 64
+short amount whole = go (ltb amount (2 ^ 44)) refl (leb whole (2 ^ 20)) refl
+  where
+    go : (a : Bool) → ltb amount (2 ^ 44) ≡ a → (w : Bool) → leb whole (2 ^ 20) ≡ w → a && w ≡ true → amount * whole + whole ≤ 2 ^ 64
+    go true e true f g =
+        let below : amount ≤ 2 ^ 44 - 1 = omega (arith, ltb-true amount (2 ^ 44) e) in
+        let least = leb-true whole (2 ^ 20) f in
+        omega (arith, least, mul-le-mul below least)
+    go true e false f g = absurd (omega (arith, ltb-true 1 0 g))
+    go false e w f g = absurd (omega (arith, ltb-true 1 0 g))
 
--- it has 64 bits times less than the whole too, and when it is rounded up by less than the whole
+-- nor does it pass 64 bits times a number up to the whole, with less than the whole added
 module _ (amount k whole : ℕ) (is-short : amount * whole + whole ≤ 2 ^ 64) (h : k ≤ whole) (hw : 0 < whole) where
   pub short-fits : amount * k < 2 ^ 64
   short-fits = omega (arith, mul-le-mul-left amount h)

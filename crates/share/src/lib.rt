@@ -1,14 +1,16 @@
 // Parts of an amount at a rate, as rate / whole of it (floor_div and ceil_div of the original's curve/fees.rs). The whole has at most 33 bits, so u64 is wide enough throughout.
 use math::ratio::Quotient;
-ghost use mathlib.Core.Bool.{true};
+ghost use mathlib.Core.Bool.{_&&_};
 ghost use mathlib.Core.Path.{_≡_};
-ghost use Prim.Native.Nat.{_+_, _*_, _/_, _^_, _≤_, _<_};
+ghost use Prim.Native.Nat.{_*_, _/_, _^_, _≤_, _<_};
+ghost use lib.Dec.{ltb, leb};
 ghost use Rattle.divide.specs.Division.{ceilDiv};
 ghost use Rattle.math.specs.Ratio.{ceilOf};
 
-// Whether the amount times the whole has 64 bits, and room for rounding up: so it is for most amounts, and one division is enough.
+// Whether amount and whole are so small that their product has 64 bits, with room for rounding up. Most are, and then one division is
+// enough.
 fn is_short(amount: u64, whole: u64) -> bool
-    ensures { λ r. ⌜ (r ≡ true → amount * whole + whole ≤ 2 ^ 64) ⌝ }
+    ensures { λ r. ⌜ r ≡ ltb amount (2 ^ 44) && leb whole (2 ^ 20) ⌝ }
 {
     if amount >= 0x1000_0000_0000 {
         return false;

@@ -1,6 +1,5 @@
 // One piece of a day sheet's input (document 01, 'The day sheet').
 use opening::zero;
-use pool::state::Pool;
 use rates::Rates;
 use rows::row::ROW_BYTES;
 use rows::row::read_row;

@@ -1,11 +1,11 @@
 -- `liquidity::token_amounts` meets its contract: short parts are those that long divisions give (`Parts.antt`).
 -- Assumes nothing.
-use mathlib.Core.Path.{_∙_}
+use mathlib.Core.Path.{sym, _∙_}
 use Prim.Native.Nat.{_^_, _≤_, _<_}
 use Rattle.curve.specs.declared.constant_product.TradingTokenResult.the-variants as T
 use Rattle.curve.specs.ConstantProduct.{tokens}
 use Rattle.liquidity.specs.Stages.{someTokens}
-use Rattle.liquidity.proofs.Parts.{quotient-some, both-some, short-is, some-tokens}
+use Rattle.liquidity.proofs.Parts.{some-part, quotient-some, both-some, short-is, some-tokens}
 use borrow.Author.Needs.{needs}
 use Rattle.liquidity.proofs.token_amounts.Statement.{statement}
 use Rattle.liquidity.proofs.token_amounts.Tie as tie
@@ -45,13 +45,13 @@ some0 :
     (c : tie.Then4)
     → let m = c .before .before .before .before .before .before .before .before .before in
     (0 < m .before .args .supply .0) × (m .before .args .supply .0 ≤ m .widening-mul .result .low)
-some0 c = let t = c .before .before in t .before .is-some .ensures (t .if3 .taken)
+some0 c = let t = c .before .before in some-part _ _ (sym (t .before .is-some .ensures) ∙ t .if3 .taken)
 
 some1 :
     (c : tie.Then4)
     → let m = c .before .before .before .before .before .before .before .before in
     (0 < m .before .before .args .supply .0) × (m .before .before .args .supply .0 ≤ m .widening-mul2 .result .low)
-some1 c = c .before .is-some2 .ensures (c .if4 .taken)
+some1 c = some-part _ _ (sym (c .before .is-some2 .ensures) ∙ c .if4 .taken)
 
 short-part-requires : tie.Need-short-part-requires
 short-part-requires c κs = some0 c

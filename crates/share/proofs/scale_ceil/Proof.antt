@@ -1,9 +1,10 @@
 -- `share::scale_ceil` meets its contract: a short amount is scaled at once; for another each test before a step that could overflow says
 -- whether the answer is past a u64 (`Shares.antt`).
+use mathlib.Core.Path.{sym, _∙_}
 use Prim.Native.Nat.{_+_, _-_, _*_, _/_, _^_, _≤_, _<_}
 use native.Mathlib.Nat.{le-refl, le-trans, lt-of-lt-of-le, lt-of-le-of-lt}
 use lib.Dec.{lit<}
-use Rattle.share.proofs.Shares.{short-fits, raised-short-fits, short-answer, rest-fits, raised-rest-fits, scaled-past, scaled-le, sum-lt, sum-fits, sum-past}
+use Rattle.share.proofs.Shares.{short, short-fits, raised-short-fits, short-answer, rest-fits, raised-rest-fits, scaled-past, scaled-le, sum-lt, sum-fits, sum-past}
 use borrow.Author.Needs.{needs}
 use Rattle.share.proofs.scale_ceil.Statement.{statement}
 use Rattle.share.proofs.scale_ceil.Tie as tie
@@ -14,7 +15,7 @@ whole-pos c = lt-of-lt-of-le (c .pre .0) (c .pre .1)
 raised-fits : (c : tie.Then1) → let a = c .before .before .args in a .amount * a .whole + (a .part - 1) < 2 ^ 64
 raised-fits c =
     let s = c .before .before in
-    raised-short-fits _ _ _ (c .before .is-short .ensures (c .if1 .taken)) (le-refl _) (whole-pos s) _ (s .pre .1)
+    raised-short-fits _ _ _ (short _ _ (sym (c .before .is-short .ensures) ∙ c .if1 .taken)) (le-refl _) (whole-pos s) _ (s .pre .1)
 
 scaled : (c : tie.Else2) → let a = c .before .before .before .args in a .amount / a .part * a .whole ≤ 2 ^ 64 - 1
 scaled c = let s = c .before .before .before in scaled-le _ _ _ (s .pre .0) (whole-pos s) (c .if2 .left)
@@ -25,7 +26,7 @@ is-short-requires c κs = search needs
 mul-t8 : tie.Need-mul-t8
 mul-t8 c =
     let s = c .before .before in
-    record { fits = short-fits _ _ _ (c .before .is-short .ensures (c .if1 .taken)) (le-refl _) (whole-pos s) }
+    record { fits = short-fits _ _ _ (short _ _ (sym (c .before .is-short .ensures) ∙ c .if1 .taken)) (le-refl _) (whole-pos s) }
 
 sub-t9 : tie.Need-sub-t9
 sub-t9 c = search needs

@@ -1,9 +1,9 @@
 -- `share::share_ceil` meets its contract: a short amount is scaled at once, of another the quotient and what is left are scaled apart
 -- (`ceil-parted`).
-use mathlib.Core.Path.{sym}
+use mathlib.Core.Path.{sym, _∙_}
 use native.Mathlib.Nat.{le-refl, le-trans}
 use Rattle.math.proofs.Rounding.{ceil-parted}
-use Rattle.share.proofs.Shares.{short-fits, raised-short-fits, rest-fits, raised-rest-fits, times-fits, ceil-sum-fits}
+use Rattle.share.proofs.Shares.{short, short-fits, raised-short-fits, rest-fits, raised-rest-fits, times-fits, ceil-sum-fits}
 use borrow.Author.Needs.{needs}
 use Rattle.share.proofs.share_ceil.Statement.{statement}
 use Rattle.share.proofs.share_ceil.Tie as tie
@@ -14,7 +14,7 @@ is-short-requires c κs = search needs
 mul-result : tie.Need-mul-result
 mul-result c =
     let s = c .before .before in
-    record { fits = short-fits _ _ _ (c .before .is-short .ensures (c .if1 .taken)) (s .pre .0) (s .pre .1) }
+    record { fits = short-fits _ _ _ (short _ _ (sym (c .before .is-short .ensures) ∙ c .if1 .taken)) (s .pre .0) (s .pre .1) }
 
 sub-result : tie.Need-sub-result
 sub-result c = search needs
@@ -22,7 +22,7 @@ sub-result c = search needs
 add-result : tie.Need-add-result
 add-result c =
     let s = c .before .before in
-    record { fits = raised-short-fits _ _ _ (c .before .is-short .ensures (c .if1 .taken)) (s .pre .0) (s .pre .1) _ (le-refl _) }
+    record { fits = raised-short-fits _ _ _ (short _ _ (sym (c .before .is-short .ensures) ∙ c .if1 .taken)) (s .pre .0) (s .pre .1) _ (le-refl _) }
 
 div-result : tie.Need-div-result
 div-result c = search needs

@@ -1,9 +1,9 @@
 -- `share::share_floor` meets its contract: a short amount is scaled at once, of another the quotient and what is left are scaled apart
 -- (`floor-parted`).
-use mathlib.Core.Path.{sym}
+use mathlib.Core.Path.{sym, _∙_}
 use native.Mathlib.Nat.{le-trans}
 use Rattle.divide.proofs.Long.{floor-parted}
-use Rattle.share.proofs.Shares.{short-fits, rest-fits, times-fits, floor-sum-fits}
+use Rattle.share.proofs.Shares.{short, short-fits, rest-fits, times-fits, floor-sum-fits}
 use borrow.Author.Needs.{needs}
 use Rattle.share.proofs.share_floor.Statement.{statement}
 use Rattle.share.proofs.share_floor.Tie as tie
@@ -14,7 +14,7 @@ is-short-requires c κs = search needs
 mul-result : tie.Need-mul-result
 mul-result c =
     let s = c .before .before in
-    record { fits = short-fits _ _ _ (c .before .is-short .ensures (c .if1 .taken)) (s .pre .0) (s .pre .1) }
+    record { fits = short-fits _ _ _ (short _ _ (sym (c .before .is-short .ensures) ∙ c .if1 .taken)) (s .pre .0) (s .pre .1) }
 
 div-result : tie.Need-div-result
 div-result c = search needs
