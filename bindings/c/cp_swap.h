@@ -3,9 +3,9 @@
  *
  * The caller owns three arrays: the pool's record, the ring of its prices and a receipt. A call
  * answers 0 when it is accepted; then the three hold what the call gives. Any other answer is the
- * number of a refusal; then nothing at all was written, the receipt neither. No number that a call
- * is given makes it trap, loop or touch other memory. A day sheet does the calls that its rows ask
- * for, and answers in rows: see the end of this file.
+ * number of a refusal; then pool and ring are as they were, and the receipt holds that number and
+ * zeros. No number that a call is given makes it trap, loop or touch other memory. A day sheet does
+ * the calls that its rows ask for, and answers in rows: see the end of this file.
  *
  * The arrays must be of the lengths below, may not overlap, and are only used during the call. The
  * library keeps nothing, allocates nothing and locks nothing: calls on different arrays may run at
@@ -60,7 +60,7 @@ enum { CP_SWAP_RING_ENTRIES = 100, CP_SWAP_RING_LENGTH = 500 };
 
 /* ---- a receipt: 16 numbers, 0 where one has no meaning */
 enum {
-    CP_SWAP_NUMBER, /* 0: receipts are only written of accepted calls */
+    CP_SWAP_NUMBER, /* 0, or the number of a refusal and then zeros */
     CP_SWAP_KIND,   /* 1 opening, 2 and 3 swaps, 4 deposit, 5 withdrawal, 6 settlement, 7 status */
     CP_SWAP_DIRECTION, /* of a swap: 0 where token 0 goes in, 1 where token 1 does */
     CP_SWAP_CLOCK,
@@ -116,6 +116,20 @@ enum {
     CP_SWAP_INIT_LP_AMOUNT_TOO_LESS = 13
 };
 
+/* ---- what a pool is opened with */
+struct cp_swap_opening {
+    uint64_t amount_0;
+    uint64_t amount_1;
+    uint64_t fee_model;  /* creator fee on: 0 the input, 1 token 0, 2 token 1 */
+    uint64_t enabled;    /* 1 where creator fees are charged, else 0 */
+    uint64_t open_time;  /* no swap before this clock */
+    uint64_t trade_rate; /* rates are in millionths */
+    uint64_t protocol_rate;
+    uint64_t fund_rate;
+    uint64_t creator_rate;
+    uint64_t share_rate;
+};
+
 /* ---- directions and status */
 enum { CP_SWAP_0_FOR_1 = 0, CP_SWAP_1_FOR_0 = 1 };
 enum { CP_SWAP_DEPOSITS = 0, CP_SWAP_WITHDRAWALS = 1, CP_SWAP_SWAPS = 2 };
@@ -123,10 +137,9 @@ enum { CP_SWAP_OPEN = 0, CP_SWAP_CLOSED = 1 };
 
 /* ---- the calls */
 
-/* A new pool in place of what the memory holds. Rates: trade, protocol, fund, creator, share. */
+/* A new pool in place of what the memory holds. */
 uint64_t cp_swap_open(uint64_t pool[21], uint64_t ring[500], uint64_t receipt[16],
-                      uint64_t amount_0, uint64_t amount_1, uint64_t fee_model, uint64_t enabled,
-                      uint64_t open_time, const uint64_t rates[5]);
+                      const struct cp_swap_opening *opening);
 
 /* Pays `amount` in, and out what the curve gives for it, at least `minimum`. */
 uint64_t cp_swap_base_input(uint64_t pool[21], uint64_t ring[500], uint64_t receipt[16],
@@ -152,7 +165,8 @@ uint64_t cp_swap_settle_creator_fee(uint64_t pool[21], uint64_t ring[500], uint6
 uint64_t cp_swap_set_status(uint64_t pool[21], uint64_t ring[500], uint64_t receipt[16],
                             uint64_t bit, uint64_t flag);
 
-/* The vaults less their counters: what the LP tokens are worth together. */
+/* The vaults less their counters: what the LP tokens are worth together. Where it is refused the
+ * nets are left as they were. */
 uint64_t cp_swap_nets(const uint64_t pool[21], uint64_t nets[2]);
 
 /* ---- the day sheet

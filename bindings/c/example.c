@@ -28,9 +28,15 @@ static void show(const char *call, uint64_t number)
 
 int main(void)
 {
-    const uint64_t rates[5] = {2500, 120000, 40000, 0, 0};
+    const struct cp_swap_opening opening = {
+        .amount_0 = 1000000,
+        .amount_1 = 4000000,
+        .trade_rate = 2500,
+        .protocol_rate = 120000,
+        .fund_rate = 40000,
+    };
 
-    show("opening", cp_swap_open(pool, ring, receipt, 1000000, 4000000, 0, 0, 0, rates));
+    show("opening", cp_swap_open(pool, ring, receipt, &opening));
     show("swap by input", cp_swap_base_input(pool, ring, receipt, CP_SWAP_0_FOR_1, 10000, 1, 100));
     show("swap by output",
          cp_swap_base_output(pool, ring, receipt, CP_SWAP_1_FOR_0, 9000, UINT64_MAX, 115));

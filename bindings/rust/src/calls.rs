@@ -53,16 +53,23 @@ pub struct Opening {
     pub rates: Rates,
 }
 
+impl Opening {
+    /// The library's ten numbers.
+    fn words(&self) -> plain::OpeningWords {
+        let Opening { amounts: [amount_0, amount_1], fee_model, enabled, open_time, rates } = *self;
+        let Rates { trade, protocol, fund, creator, share } = rates;
+        [amount_0, amount_1, fee_model as u64, enabled.into(), open_time, trade, protocol, fund, creator, share]
+    }
+}
+
 /// Accepted with a receipt, or refused with nothing changed.
 pub type Answer = Result<Receipt, Refusal>;
 
 impl Pool {
     /// A new pool and ring in place of these.
     pub fn open(&mut self, ring: &mut Ring, opening: &Opening) -> Answer {
-        let Opening { amounts, fee_model, enabled, open_time, rates } = *opening;
-        let terms = [fee_model as u64, enabled.into(), open_time];
-        let rates = [rates.trade, rates.protocol, rates.fund, rates.creator, rates.share];
-        self.call(ring, |pool, ring, receipt| plain::open(pool, ring, receipt, amounts, terms, &rates))
+        let opening = opening.words();
+        self.call(ring, |pool, ring, receipt| plain::open(pool, ring, receipt, &opening))
     }
 
     /// Pays `amount` in, and out what the curve gives for it, at least `minimum`.

@@ -1,6 +1,6 @@
 //! The library's functions over plain arrays, with any numbers: for callers who keep their pools
 //! as numbers. Each answers 0, or the number of a [`Refusal`](crate::Refusal) and has written
-//! nothing, the receipt neither.
+//! nothing but a receipt of that number and zeros.
 //!
 //! All that is unsafe in this crate is in this file.
 
@@ -15,6 +15,9 @@ pub type PoolWords = [u64; 21];
 pub type RingWords = [u64; 500];
 /// A receipt: the fields of [`Receipt`] in their order.
 pub type ReceiptWords = [u64; 16];
+/// The arguments of an opening: amount 0, amount 1, fee model, enabled, open time, and the rates trade,
+/// protocol, fund, creator and share.
+pub type OpeningWords = [u64; 10];
 /// A day sheet's numbers: trade, protocol, fund, creator and share rate for the next opening, and how
 /// many bytes are held of a row that is begun.
 pub type SheetWords = [u64; 6];
@@ -23,10 +26,7 @@ pub type RowBytes = [u8; 103];
 
 #[rustfmt::skip]
 extern "C" {
-    fn cp_swap_open(
-        pool: *mut u64, ring: *mut u64, receipt: *mut u64,
-        amount_0: u64, amount_1: u64, fee_model: u64, enabled: u64, open_time: u64, rates: *const u64,
-    ) -> u64;
+    fn cp_swap_open(pool: *mut u64, ring: *mut u64, receipt: *mut u64, opening: *const u64) -> u64;
     fn cp_swap_base_input(
         pool: *mut u64, ring: *mut u64, receipt: *mut u64,
         direction: u64, amount: u64, minimum: u64, clock: u64,
@@ -58,22 +58,16 @@ extern "C" {
 // the length of a slice goes with it; those that are written do not overlap with another, and the
 // library uses them during the call only.
 
-/// An opening; the terms are fee model, enabled and open time, the rates trade, protocol, fund,
-/// creator and share.
+/// An opening.
 pub fn open(
     pool: &mut PoolWords,
     ring: &mut RingWords,
     receipt: &mut ReceiptWords,
-    amounts: [u64; 2],
-    terms: [u64; 3],
-    rates: &[u64; 5],
+    opening: &OpeningWords,
 ) -> u64 {
-    let ([amount_0, amount_1], [fee_model, enabled, open_time]) = (amounts, terms);
     let (pool, ring, receipt) = (pool.as_mut_ptr(), ring.as_mut_ptr(), receipt.as_mut_ptr());
     // SAFETY: as said above.
-    unsafe {
-        cp_swap_open(pool, ring, receipt, amount_0, amount_1, fee_model, enabled, open_time, rates.as_ptr())
-    }
+    unsafe { cp_swap_open(pool, ring, receipt, opening.as_ptr()) }
 }
 
 /// A swap by input: direction 0 pays token 0 in, 1 token 1.

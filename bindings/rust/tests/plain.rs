@@ -4,22 +4,37 @@ use cp_swap::{plain, Entry, Pool, Rates, Refusal, Ring, RingHead, Sum};
 
 fn opened() -> ([u64; 21], [u64; 500]) {
     let (mut pool, mut ring, mut receipt) = ([0; 21], [0; 500], [0; 16]);
-    let rates = [2_500, 120_000, 40_000, 0, 0];
-    let number = plain::open(&mut pool, &mut ring, &mut receipt, [1_000_000, 4_000_000], [0; 3], &rates);
+    let opening = [1_000_000, 4_000_000, 0, 0, 0, 2_500, 120_000, 40_000, 0, 0];
+    let number = plain::open(&mut pool, &mut ring, &mut receipt, &opening);
     assert_eq!(number, 0);
     (pool, ring)
 }
 
-#[test]
-fn a_refused_call_writes_nothing() {
+/// A refused call's receipt.
+fn refusal(number: u64) -> [u64; 16] {
+    let mut receipt = [0; 16];
+    receipt[0] = number;
+    receipt
+}
+
+/// Refused with this number: pool and ring stay, and the receipt holds the number and zeros.
+fn refuses(number: u64, call: impl FnOnce(&mut [u64; 21], &mut [u64; 500], &mut [u64; 16]) -> u64) {
     let (mut pool, mut ring) = opened();
     let mut receipt = [7; 16];
     let before = (pool, ring);
-    let wrong_direction = plain::base_input(&mut pool, &mut ring, &mut receipt, 2, 10_000, 0, 0);
-    let wrong_bit = plain::set_status(&mut pool, &mut ring, &mut receipt, 3, 0);
-    let wrong_model = plain::open(&mut pool, &mut ring, &mut receipt, [200, 200], [3, 0, 0], &[0; 5]);
-    assert_eq!([wrong_direction, wrong_bit, wrong_model], [5, 3, 9]);
-    assert_eq!((pool, ring, receipt), (before.0, before.1, [7; 16]));
+    assert_eq!(call(&mut pool, &mut ring, &mut receipt), number);
+    assert_eq!(((pool, ring), receipt), (before, refusal(number)));
+}
+
+#[test]
+fn a_refused_call_writes_only_its_receipt() {
+    refuses(5, |pool, ring, receipt| plain::base_input(pool, ring, receipt, 2, 10_000, 0, 0));
+    refuses(10, |pool, ring, receipt| plain::base_output(pool, ring, receipt, 0, 0, 0, 0));
+    refuses(10, |pool, ring, receipt| plain::deposit(pool, ring, receipt, 0, [9, 9]));
+    refuses(10, |pool, ring, receipt| plain::withdraw(pool, ring, receipt, 3, 2, [0, 0]));
+    refuses(3, |pool, ring, receipt| plain::settle_creator_fee(pool, ring, receipt, 1_000_001));
+    refuses(3, |pool, ring, receipt| plain::set_status(pool, ring, receipt, 3, 0));
+    refuses(9, |pool, ring, receipt| plain::open(pool, ring, receipt, &[200, 200, 3, 0, 0, 0, 0, 0, 0, 0]));
 }
 
 #[test]
@@ -32,7 +47,7 @@ fn a_record_with_a_wrong_flag_is_refused() {
         assert_eq!(plain::base_input(&mut pool, &mut ring, &mut receipt, 0, 10_000, 0, 0), 3);
         assert_eq!(plain::deposit(&mut pool, &mut ring, &mut receipt, 3, [9, 9]), 3);
         assert_eq!(plain::nets(&pool, &mut nets), 3);
-        assert_eq!((pool, receipt, nets), (before, [7; 16], [7; 2]));
+        assert_eq!((pool, receipt, nets), (before, refusal(3), [7; 2]));
     }
 }
 

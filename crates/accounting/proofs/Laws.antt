@@ -7,13 +7,14 @@ use native.Mathlib.Omega.{arith}
 use Rattle.refusal.specs.Tests.{U64, first}
 use Rattle.refusal.proofs.Stops.{facts, first-passed}
 use Rattle.accounting.specs.declared.FeeCounters.{FeeCounters}
+use Rattle.accounting.specs.declared.Books.{Books}
 use Rattle.accounting.specs.Counters.{ofToken, counters0, counters1, counterTests}
 use Rattle.accounting.specs.Booking.{booked, pastTests}
 
 -- each vault covers its counters
-pub covered : (vault0 vault1 : ℕ) (f : FeeCounters) → 0 ≡ first (counterTests vault0 vault1 f) → (counters0 f ≤ vault0) × (counters1 f ≤ vault1)
+pub covered : (b : Books) → 0 ≡ first (counterTests b) → (counters0 (b .fees) ≤ b .vault0) × (counters1 (b .fees) ≤ b .vault1)
 unfolding counterTests
-covered vault0 vault1 f e = let h = first-passed _ refl e in (omega (arith, facts, h), omega (arith, facts, h))
+covered b e = let h = first-passed _ refl e in (omega (arith, facts, h), omega (arith, facts, h))
 
 -- each counter has room for its fee
 pub room :

@@ -7,6 +7,7 @@ use lib.Dec.{ltb}
 use Rattle.refusal.specs.Refusal.{MathOverflow, InsufficientVault}
 use Rattle.refusal.specs.Tests.{Tests, past, outcome}
 use Rattle.accounting.specs.declared.FeeCounters.{FeeCounters}
+use Rattle.accounting.specs.declared.Books.{Books}
 use Rattle.accounting.specs.declared.Nets.{Nets}
 use Rattle.accounting.specs.declared.Nets.the-variants.{Of, Refused}
 
@@ -25,16 +26,22 @@ counters0 f = f .protocol0 + f .fund0 + f .creator0
 abbrev pub counters1 : FeeCounters → ℕ
 counters1 f = f .protocol1 + f .fund1 + f .creator1
 
+-- the nets
+abbrev pub net0 : Books → ℕ
+net0 b = b .vault0 - counters0 (b .fees)
+
+abbrev pub net1 : Books → ℕ
+net1 b = b .vault1 - counters1 (b .fees)
+
 -- counters' sums 8, vaults 7
-unfoldable pub counterTests : ℕ → ℕ → FeeCounters → Tests
-counterTests vault0 vault1 f =
-    (past (counters0 f), MathOverflow)
-    ∷ (past (counters1 f), MathOverflow)
-    ∷ (ltb vault0 (counters0 f), InsufficientVault)
-    ∷ (ltb vault1 (counters1 f), InsufficientVault)
+unfoldable pub counterTests : Books → Tests
+counterTests b =
+    (past (counters0 (b .fees)), MathOverflow)
+    ∷ (past (counters1 (b .fees)), MathOverflow)
+    ∷ (ltb (b .vault0) (counters0 (b .fees)), InsufficientVault)
+    ∷ (ltb (b .vault1) (counters1 (b .fees)), InsufficientVault)
     ∷ []
 
 -- the two nets as an answer
-unfoldable pub netsAnswer : ℕ → ℕ → FeeCounters → Nets
-netsAnswer vault0 vault1 f =
-    outcome (counterTests vault0 vault1 f) Refused (Of (vault0 - counters0 f) (vault1 - counters1 f))
+unfoldable pub netsAnswer : Books → Nets
+netsAnswer b = outcome (counterTests b) Refused (Of (net0 b) (net1 b))

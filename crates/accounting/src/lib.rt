@@ -1,8 +1,11 @@
-// The six fee counters: what the pool owes out of its vaults (the sums of the original's states/pool.rs).
+// What a pool has booked: the vaults, the LP supply, and the six fee counters, which it owes out of its vaults (the sums of the original's
+// states/pool.rs).
 use refusal::ACCEPTED;
 use refusal::INSUFFICIENT_VAULT;
 use refusal::MATH_OVERFLOW;
 use refusal::PANIC;
+use refusal::first3;
+use refusal::past_sum;
 ghost use mathlib.Core.Path.{_≡_};
 ghost use Prim.Native.Nat.{_+_, _-_, _≤_};
 ghost use Rattle.refusal.specs.Tests.{first};
@@ -16,6 +19,14 @@ pub struct FeeCounters {
     pub fund1: u64,
     pub creator0: u64,
     pub creator1: u64,
+}
+
+// What is booked. A vault is the whole balance of its token.
+pub struct Books {
+    pub vault0: u64,
+    pub vault1: u64,
+    pub fees: FeeCounters,
+    pub supply: u64,
 }
 
 // A swap's fees that are booked.
@@ -38,15 +49,17 @@ pub enum Booking {
 }
 
 // Counters' sums 8, vaults 7; or 0.
-fn counter_number(vault0: u64, vault1: u64, fees: FeeCounters) -> u64
-    ensures { λ r. ⌜ r ≡ first (counterTests vault0 vault1 fees) ⌝ }
+fn counter_number(books: Books) -> u64
+    ensures { λ r. ⌜ r ≡ first (counterTests books) ⌝ }
 {
-    let protocol0 = fees.protocol0;
-    let protocol1 = fees.protocol1;
-    let fund0 = fees.fund0;
-    let fund1 = fees.fund1;
-    let creator0 = fees.creator0;
-    let creator1 = fees.creator1;
+    let vault0 = books.vault0;
+    let vault1 = books.vault1;
+    let protocol0 = books.fees.protocol0;
+    let protocol1 = books.fees.protocol1;
+    let fund0 = books.fees.fund0;
+    let fund1 = books.fees.fund1;
+    let creator0 = books.fees.creator0;
+    let creator1 = books.fees.creator1;
     if fund0 > u64::MAX - protocol0 {
         return MATH_OVERFLOW;
     }
@@ -76,17 +89,20 @@ fn net(vault: u64, protocol: u64, fund: u64, creator: u64) -> u64
     vault - (protocol + fund + creator)
 }
 
-// Both nets.
-pub fn vault_amount_without_fee(vault0: u64, vault1: u64, fees: FeeCounters) -> Nets
-    ensures { λ r. ⌜ r ≡ netsAnswer vault0 vault1 fees ⌝ }
-{
-    let number = counter_number(vault0, vault1, fees);
-    if number != ACCEPTED {
-        return Nets::Refused(number);
+impl Books {
+    // Both nets, or 8 or 7.
+    pub fn vault_amount_without_fee(self) -> Nets
+        ensures { λ r. ⌜ r ≡ netsAnswer self ⌝ }
+    {
+        let number = counter_number(self);
+        if number != ACCEPTED {
+            return Nets::Refused(number);
+        }
+        let fees = self.fees;
+        let net0 = net(self.vault0, fees.protocol0, fees.fund0, fees.creator0);
+        let net1 = net(self.vault1, fees.protocol1, fees.fund1, fees.creator1);
+        Nets::Of(net0, net1)
     }
-    let net0 = net(vault0, fees.protocol0, fees.fund0, fees.creator0);
-    let net1 = net(vault1, fees.protocol1, fees.fund1, fees.creator1);
-    Nets::Of(net0, net1)
 }
 
 // Of two numbers, token 0's and token 1's, that of a token.
@@ -107,16 +123,14 @@ pub fn creator_token(fee_on_input: bool, zero_in: bool) -> bool
 fn booking_number(protocol: u64, fund: u64, creator: u64, fees: SwapFees) -> u64
     ensures { λ r. ⌜ r ≡ first (pastTests protocol fund creator (fees .protocol) (fees .fund) (fees .creator)) ⌝ }
 {
-    if fees.protocol > u64::MAX - protocol {
-        return PANIC;
-    }
-    if fees.fund > u64::MAX - fund {
-        return PANIC;
-    }
-    if fees.creator > u64::MAX - creator {
-        return PANIC;
-    }
-    ACCEPTED
+    first3(
+        past_sum(protocol, fees.protocol),
+        PANIC,
+        past_sum(fund, fees.fund),
+        PANIC,
+        past_sum(creator, fees.creator),
+        PANIC,
+    )
 }
 
 impl FeeCounters {

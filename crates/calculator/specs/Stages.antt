@@ -6,6 +6,7 @@ use Rattle.refusal.specs.Refusal.{ZeroTradingTokens}
 use Rattle.refusal.specs.Tests.{outcome}
 use Rattle.fees.specs.Fees.{Million, split}
 use Rattle.rates.specs.declared.Rates.{Rates}
+use Rattle.rates.specs.Rates.{HighestFeeRate}
 use Rattle.calculator.specs.declared.SwapResult.{SwapResult}
 use Rattle.calculator.specs.declared.SwapAnswer.{SwapAnswer}
 use Rattle.calculator.specs.declared.SwapAnswer.the-variants.{Swapped, Refused}
@@ -13,7 +14,7 @@ use Rattle.calculator.specs.Calculator.{noSplit, charged, quoteTests, sw
 
 -- what the rate limits leave
 pub record Limited (rates : Rates) (creatorRate : ℕ) : Type 0 where
-  pub fees : rates .trade + creatorRate ≤ 999999
+  pub fees : rates .trade + creatorRate ≤ HighestFeeRate
   pub shares : rates .protocol + rates .fund ≤ Million
 
 -- fee on input: what is charged of the total fee

@@ -1,2 +1,3 @@
 pub mod ColumnRead
 pub mod ColumnWritten
+pub mod ColumnBack

@@ -1,78 +1,87 @@
--- A day sheet over plain memory: a record that is no pool, and what a piece and the end of the input write.
+-- A day sheet over plain memory: what a piece and the end of the input leave, and the sheet's numbers and the progress, written where it is accepted.
 -- Assumes nothing.
 use Prim.Native.Nat.{ℕ}
-use mathlib.Core.Path.{_≡_, refl, ap, _∙_}
+use mathlib.Core.Path.{_≡_, sym, ap, _∙_}
+use mathlib.Core.Bool.{Bool, cond}
 use mathlib.Core.List.{List, [], _∷_}
+use lib.Dec.{eqb}
 use lib.ListN.{length, take}
-use Rattle.refusal.specs.Tests.{first, outcome}
-use Rattle.refusal.proofs.Stops.{outcome-stop, outcome-go}
-use Rattle.rates.specs.declared.Rates.{Rates}
-use Rattle.pool.specs.declared.state.Pool.{Pool}
-use Rattle.words.specs.Words.{ratesOf, at, poolWords, poolOf}
-use Rattle.sheet.specs.Sheet.{sheetOf}
-use Rattle.stream.specs.declared.feed.Going.{Going}
-use Rattle.stream.specs.declared.feed.Fed.{Fed}
-use Rattle.stream.specs.declared.feed.Ended.{Ended}
-use Rattle.stream.specs.Pieces.{feed, leftBy, leftOf, finish, leftAtEnd, endOf}
+use borrow.Author.Tests.{eq-eqb, ne-eqb}
+use Rattle.refusal.specs.Tests.{outcome}
+use Rattle.refusal.proofs.Stops.{outcome-map}
+use Rattle.words.specs.Words.{ratesOf, at}
 use Rattle.memory.specs.Memory.{recordTests}
-use Rattle.cp_swap.specs.DaySheet.{SheetMemory, sheetMemory, sheetWords, storedPiece, fedOn, storedEnd, endedOn}
+use Rattle.sheet.specs.Lent.{sheetIn}
+use Rattle.stream.specs.declared.feed.Going.{Going}
+use Rattle.stream.specs.Pieces.{feed, leftBy, finish, leftAtEnd}
+use Rattle.stream.specs.Lent.{FedMemory, fedWith, leftWords, fedOver, EndMemory, endWith, endWords, endedOver}
+use Rattle.cp_swap.specs.DaySheet.{begunAt, SheetMemory, sheetMemory, sheetWords, storedPiece, fedOn, storedEnd, endedOn}
 
-abbrev pub goingWith : Rates → Pool → ℕ → Going
-goingWith rates pool begun = record { sheet = record { rates = rates; pool = pool }; begun = begun }
+-- the rates and the bytes held that the sheet's numbers say
+abbrev goingIn : List ℕ → Going
+goingIn s = record { rates = ratesOf s; begun = at s begunAt }
 
-pub going-with : {rates rates′ : Rates} {pool pool′ : Pool} {begun : ℕ} → rates ≡ rates′ → pool ≡ pool′ → goingWith rates pool begun ≡ goingWith rates′ pool′ begun
-going-with {rates} {rates′} {pool} {pool′} {begun} same-rates same-pool =
-    ap (λ (r : Rates). goingWith r pool begun) same-rates ∙ ap (λ (q : Pool). goingWith rates′ q begun) same-pool
+module _ (p e s h o g : List ℕ) where
+  -- ---- a piece, written by its number
+  pieceBy : FedMemory → Bool → SheetMemory
+  pieceBy m b =
+      cond b (sheetMemory 0 (m .pool) (m .entries) (sheetWords (m .rates) (m .begun)) (m .held) (m .output) (m .taken ∷ m .written ∷ []))
+      (sheetMemory (m .number) (m .pool) (m .entries) s (m .held) (m .output) g)
 
--- the sheet that the memory holds
-abbrev goingIn : List ℕ → List ℕ → Going
-goingIn p s = goingWith (ratesOf s) (poolOf p) (at s 5)
+  pieceOf : FedMemory → SheetMemory
+  pieceOf m = pieceBy m (eqb (m .number) 0)
 
-module _ (p e s h o g : List ℕ) (n : ℕ) (read : n ≡ first (recordTests p)) where
-  abbrev untouchedBy : ℕ → SheetMemory
-  untouchedBy number = sheetMemory number p e s h o g
+  piece-is : (i : List ℕ) → pieceOf (fedOver (ratesOf s) (at s begunAt) p e h i o) ≡ fedOn p e s h i o g
+  unfolding pieceBy pieceOf outcome recordTests fedOver storedPiece fedOn
+  piece-is i =
+      outcome-map pieceOf (recordTests p) (λ number. fedWith number (ratesOf s) (at s begunAt) p e h 0 0 o)
+      (leftWords (leftBy o (feed (length o) (sheetIn (ratesOf s) p e) (take (at s begunAt) h) i)))
 
-  -- ---- whatever the record's tests let through
-  module _ (m : SheetMemory) where
-    no-record : (n ≡ 0 → ⊥) → untouchedBy n ≡ outcome (recordTests p) untouchedBy m
-    no-record f = outcome-stop (recordTests p) untouchedBy m n read f
+  module _ (i : List ℕ) {q : Going} {m : FedMemory} (held : q ≡ goingIn s) (fed : m ≡ fedOver (q .rates) (q .begun) p e h i o) where
+    of-piece : pieceOf m ≡ fedOn p e s h i o g
+    of-piece = ap pieceOf (fed ∙ ap (λ (q : Going). fedOver (q .rates) (q .begun) p e h i o) held) ∙ piece-is i
 
-    all-written :
-        {p′ w e′ s′ t h′ o′ g′ : List ℕ} → n ≡ 0 → p′ ≡ w → s′ ≡ t → sheetMemory 0 w e′ t h′ o′ g′ ≡ m
-        → sheetMemory 0 p′ e′ s′ h′ o′ g′ ≡ outcome (recordTests p) untouchedBy m
-    unfolding recordTests
-    all-written {p′} {w} {e′} {s′} {t} {h′} {o′} {g′} z record-written sheet-written is =
-        ap (λ (l : List ℕ). sheetMemory 0 l e′ s′ h′ o′ g′) record-written
-        ∙ ap (λ (l : List ℕ). sheetMemory 0 w e′ l h′ o′ g′) sheet-written
-        ∙ is
-        ∙ outcome-go (recordTests p) untouchedBy m n refl read z
+    pub piece-refused : (m .number ≡ 0 → ⊥) → sheetMemory (m .number) (m .pool) (m .entries) s (m .held) (m .output) g ≡ fedOn p e s h i o g
+    unfolding pieceBy pieceOf
+    piece-refused f = sym (ap (pieceBy m) (ne-eqb _ _ f)) ∙ of-piece
 
-  -- ---- a piece
-  pub piece-no-record : (i : List ℕ) → (n ≡ 0 → ⊥) → untouchedBy n ≡ fedOn p e s h i o g
-  unfolding fedOn
-  piece-no-record i f = no-record _ f
+    pub piece-stored :
+        {s′ : List ℕ} → m .number ≡ 0 → s′ ≡ sheetWords (m .rates) (m .begun)
+        → sheetMemory 0 (m .pool) (m .entries) s′ (m .held) (m .output) (m .taken ∷ m .written ∷ []) ≡ fedOn p e s h i o g
+    unfolding pieceBy pieceOf
+    piece-stored z sheet-written =
+        ap (λ (l : List ℕ). sheetMemory 0 (m .pool) (m .entries) l (m .held) (m .output) (m .taken ∷ m .written ∷ [])) sheet-written
+        ∙ sym (ap (pieceBy m) (eq-eqb _ _ z))
+        ∙ of-piece
 
-  pub piece-stored :
-      (i : List ℕ) {q : Going} {f : Fed} {p′ e′ s′ h′ o′ : List ℕ} → n ≡ 0 → q ≡ goingIn p s
-      → leftOf f e′ h′ o′ ≡ leftBy o (feed (length o) (sheetOf (q .sheet) e) (take (q .begun) h) i)
-      → p′ ≡ poolWords (f .going .sheet .pool) → s′ ≡ sheetWords (f .going .sheet .rates) (f .going .begun)
-      → sheetMemory 0 p′ e′ s′ h′ o′ (f .taken ∷ f .written ∷ []) ≡ fedOn p e s h i o g
-  unfolding fedOn storedPiece
-  piece-stored i z held fed record-written sheet-written =
-      all-written _ z record-written sheet-written
-      (ap storedPiece (fed ∙ ap (λ (q : Going). leftBy o (feed (length o) (sheetOf (q .sheet) e) (take (q .begun) h) i)) held))
+  -- ---- the end of the input, likewise
+  endBy : EndMemory → Bool → SheetMemory
+  endBy m b =
+      cond b (sheetMemory 0 (m .pool) (m .entries) (sheetWords (m .rates) 0) h (m .output) (0 ∷ m .written ∷ []))
+      (sheetMemory (m .number) (m .pool) (m .entries) s h (m .output) g)
 
-  -- ---- the end of the input
-  pub end-no-record : (n ≡ 0 → ⊥) → untouchedBy n ≡ endedOn p e s h o g
-  unfolding endedOn
-  end-no-record f = no-record _ f
+  endOf : EndMemory → SheetMemory
+  endOf m = endBy m (eqb (m .number) 0)
 
-  pub end-stored :
-      {q : Going} {l : Ended} {p′ e′ s′ o′ : List ℕ} → n ≡ 0 → q ≡ goingIn p s
-      → endOf l e′ o′ ≡ leftAtEnd o (finish (sheetOf (q .sheet) e) (take (q .begun) h))
-      → p′ ≡ poolWords (l .sheet .pool) → s′ ≡ sheetWords (l .sheet .rates) 0
-      → sheetMemory 0 p′ e′ s′ h o′ (0 ∷ l .written ∷ []) ≡ endedOn p e s h o g
-  unfolding endedOn storedEnd
-  end-stored z held ended record-written sheet-written =
-      all-written _ z record-written sheet-written
-      (ap (storedEnd h) (ended ∙ ap (λ (q : Going). leftAtEnd o (finish (sheetOf (q .sheet) e) (take (q .begun) h))) held))
+  end-is : endOf (endedOver (ratesOf s) (at s begunAt) p e h o) ≡ endedOn p e s h o g
+  unfolding endBy endOf outcome recordTests endedOver storedEnd endedOn
+  end-is =
+      outcome-map endOf (recordTests p) (λ number. endWith number (ratesOf s) p e 0 o)
+      (endWords (leftAtEnd o (finish (sheetIn (ratesOf s) p e) (take (at s begunAt) h))))
+
+  module _ {q : Going} {m : EndMemory} (held : q ≡ goingIn s) (ended : m ≡ endedOver (q .rates) (q .begun) p e h o) where
+    of-end : endOf m ≡ endedOn p e s h o g
+    of-end = ap endOf (ended ∙ ap (λ (q : Going). endedOver (q .rates) (q .begun) p e h o) held) ∙ end-is
+
+    pub end-refused : (m .number ≡ 0 → ⊥) → sheetMemory (m .number) (m .pool) (m .entries) s h (m .output) g ≡ endedOn p e s h o g
+    unfolding endBy endOf
+    end-refused f = sym (ap (endBy m) (ne-eqb _ _ f)) ∙ of-end
+
+    pub end-stored :
+        {s′ : List ℕ} → m .number ≡ 0 → s′ ≡ sheetWords (m .rates) 0
+        → sheetMemory 0 (m .pool) (m .entries) s′ h (m .output) (0 ∷ m .written ∷ []) ≡ endedOn p e s h o g
+    unfolding endBy endOf
+    end-stored z sheet-written =
+        ap (λ (l : List ℕ). sheetMemory 0 (m .pool) (m .entries) l h (m .output) (0 ∷ m .written ∷ [])) sheet-written
+        ∙ sym (ap (endBy m) (eq-eqb _ _ z))
+        ∙ of-end

@@ -1,11 +1,10 @@
--- A day sheet over a caller's plain memory: the pool's record, the ring's entries, six numbers (the rates for the next opening, and how many
+-- A day sheet over a caller's plain memory: the pool's record, the ring's entries, the sheet's numbers (the rates for the next opening, and how many
 -- bytes of a row that is begun are held), those bytes, the input, the output, and how far a piece has come.
 use Prim.Native.Nat.{ℕ}
 use mathlib.Core.List.{List, [], _∷_}
 use lib.ListN.{length, take}
 use Rattle.refusal.specs.Tests.{outcome}
 use Rattle.rates.specs.declared.Rates.{Rates}
-use Rattle.oracle.specs.Ring.{Entries}
 use Rattle.words.specs.Words.{ratesOf, at, poolWords, poolOf}
 use Rattle.sheet.specs.Sheet.{Sheet}
 use Rattle.stream.specs.Pieces.{Left, feed, leftBy, LeftAtEnd, finish, leftAtEnd}
@@ -34,6 +33,9 @@ sheetMemory number pool entries sheet held output progress = record {
 }
 
 -- the rates for the next opening, and how many bytes are held
+abbrev pub begunAt : ℕ
+begunAt = 5
+
 abbrev pub sheetWords : Rates → ℕ → List ℕ
 sheetWords r begun = r .trade ∷ r .protocol ∷ r .fund ∷ r .creator ∷ r .share ∷ begun ∷ []
 
@@ -56,7 +58,7 @@ unfoldable pub fedOn : List ℕ → List ℕ → List ℕ → List ℕ → List 
 fedOn pool entries sheet held input output progress =
     outcome (recordTests pool)
     (λ number. record { number = number; pool = pool; entries = entries; sheet = sheet; held = held; output = output; progress = progress })
-    (storedPiece (leftBy output (feed (length output) (sheetIn pool entries sheet) (take (at sheet 5) held) input)))
+    (storedPiece (leftBy output (feed (length output) (sheetIn pool entries sheet) (take (at sheet begunAt) held) input)))
 
 -- the end of the input: the last row, where one is begun; none is begun after it
 unfoldable pub storedEnd : List ℕ → LeftAtEnd → SheetMemory
@@ -74,4 +76,4 @@ unfoldable pub endedOn : List ℕ → List ℕ → List ℕ → List ℕ → Lis
 endedOn pool entries sheet held output progress =
     outcome (recordTests pool)
     (λ number. record { number = number; pool = pool; entries = entries; sheet = sheet; held = held; output = output; progress = progress })
-    (storedEnd held (leftAtEnd output (finish (sheetIn pool entries sheet) (take (at sheet 5) held))))
+    (storedEnd held (leftAtEnd output (finish (sheetIn pool entries sheet) (take (at sheet begunAt) held))))

@@ -1,18 +1,28 @@
 // The day sheet: rows from standard input, their answers to standard output, in constant memory.
 use libc::STDIN_FILENO;
 use libc::STDOUT_FILENO;
+use oracle::RING_WORDS;
+use rows::row::ROW_BYTES;
+use stream::feed::Fed;
 use stream::feed::Going;
 use stream::feed::feed;
 use stream::feed::finish;
 use stream::feed::start;
-ghost use Prim.Native.Nat.{_≤_};
-ghost use lib.ListN.{length};
+use words::POOL_WORDS;
+ghost use mathlib.Core.Path.{_≡_};
+ghost use Prim.Native.Nat.{_*_, _≤_};
+ghost use lib.ListN.{length, take};
+ghost use Rattle.rows.specs.Row.{rowBytes};
+ghost use Rattle.memory.specs.Steps.{IsRecord};
+ghost use Rattle.sheet.specs.Lent.{sheetIn};
+ghost use Rattle.stream.specs.Pieces.{feed, leftBy};
+ghost use Rattle.stream.specs.Lent.{fedMemory, leftWords};
 
-// What a block of the input left, and whether all its answers were written.
-struct Block {
-    going: Going,
-    is_written: bool,
-}
+// So many bytes are read at a time.
+const BLOCK_BYTES: usize = 8192;
+
+// Room for an answer to each of them, since each may end a row.
+const ANSWER_BYTES: usize = BLOCK_BYTES * ROW_BYTES;
 
 fn fail_to_read() {
     os::fail(b"standard input");
@@ -26,50 +36,43 @@ fn write_rows(rows: &[u8]) -> bool {
     false
 }
 
-// Answers all rows that a block ends, as many at a time as the output holds.
+// Answers all rows that a block ends: there is room for an answer to each of its bytes.
 fn answer_block(
     going: Going,
-    entries: &mut [u64; 500],
-    held: &mut [u8; 103],
-    input: &[u8],
-    output: &mut [u8],
-) -> Block
-    requires { ⌜ 103 ≤ length (now output) ⌝ }
+    pool: &mut [u64; POOL_WORDS],
+    ring: &mut [u64; RING_WORDS],
+    held: &mut [u8; ROW_BYTES],
+    block: &[u8],
+    output: &mut [u8; ANSWER_BYTES],
+) -> Fed
+    requires { ⌜ IsRecord (now pool) × (length (now block) ≤ 8192) ⌝ }
+    ensures { λ r. ⌜ fedMemory r (now (pool .exit)) (now (ring .exit)) (now (held .exit)) (now (output .exit)) ≡ leftWords (leftBy (now (output .entry)) (feed (rowBytes * length (now (block .entry))) (sheetIn (going .rates) (now (pool .entry)) (now (ring .entry))) (take (going .begun) (now (held .entry))) (now (block .entry)))) ⌝ }
 {
-    let mut after = going;
-    let mut from = 0;
-    while from < input.len() {
-        let fed = feed(after, entries, held, &input[from..], output);
-        after = fed.going;
-        let written = fed.written;
-        if !write_rows(&output[..written]) {
-            return Block {
-                going: after,
-                is_written: false,
-            };
-        }
-        from += fed.taken;
-    }
-    Block {
-        going: after,
-        is_written: true,
-    }
+    feed(going, pool, ring, held, block, output)
 }
 
 // The last row, where bytes follow the last newline.
-fn answer_last(going: Going, entries: &mut [u64; 500], held: &[u8; 103]) {
-    let mut output = [0u8; 103];
-    let ended = finish(going, entries, held, &mut output);
+fn answer_last(
+    going: Going,
+    pool: &mut [u64; POOL_WORDS],
+    ring: &mut [u64; RING_WORDS],
+    held: &[u8; ROW_BYTES],
+)
+    requires { ⌜ IsRecord (now pool) ⌝ }
+{
+    let mut output = [0u8; ROW_BYTES];
+    let ended = finish(going, pool, ring, held, &mut output);
     let written = ended.written;
     write_rows(&output[..written]);
 }
 
 // Nothing is written after a failure. The turns only bound the loop.
 fn main() {
-    let mut entries = [0u64; 500];
-    let mut held = [0u8; 103];
-    let mut input = io::large_buffer();
-    let mut output = [0u8; 131072];
+    let mut pool = [0u64; POOL_WORDS];
+    let mut ring = [0u64; RING_WORDS];
+    let mut held = [0u8; ROW_BYTES];
+    let mut input = [0u8; BLOCK_BYTES];
+    let mut output = [0u8; ANSWER_BYTES];
     let mut going = start();
     let mut turns = u64::MAX;
     while turns > 0 {
@@ -81,12 +84,20 @@ fn main() {
         }
         let n = io::count(got, &input);
         if n == 0 {
-            answer_last(going, &mut entries, &held);
+            answer_last(going, &mut pool, &mut ring, &held);
             return;
         }
-        let block = answer_block(going, &mut entries, &mut held, &input[..n], &mut output);
-        going = block.going;
-        if !block.is_written {
+        let fed = answer_block(
+            going,
+            &mut pool,
+            &mut ring,
+            &mut held,
+            &input[..n],
+            &mut output,
+        );
+        going = fed.going;
+        let written = fed.written;
+        if !write_rows(&output[..written]) {
             return;
         }
     }

@@ -1,2 +1,2 @@
-pub mod Worth
+pub mod Liquidity
 pub mod Stages

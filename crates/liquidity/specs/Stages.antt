@@ -1,26 +1,46 @@
--- What the steps of this crate answer. No definition of document 01's rests on these.
-use Prim.Native.Nat.{ℕ}
-use mathlib.Core.Bool.{Bool, cond}
-use lib.Dec.{eqb}
-use Rattle.refusal.specs.Refusal.{ZeroTradingTokens}
-use Rattle.answer.specs.declared.Answer.{Answer}
-use Rattle.answer.specs.declared.Answer.the-variants.{Amount, Refused}
-use Rattle.curve.specs.declared.constant_product.RoundDirection.{RoundDirection}
-use Rattle.curve.specs.declared.constant_product.RoundDirection.the-variants.{Floor, Ceiling}
-use Rattle.curve.specs.declared.constant_product.TradingTokenResult.{TradingTokenResult}
-use Rattle.curve.specs.declared.constant_product.TradingTokenResult.the-variants as T
-use Rattle.curve.specs.Stages.{tokensOf}
+-- What the private steps of this crate answer. No public definition rests on these.
+use Prim.Native.Nat.{ℕ, _+_}
+use mathlib.Core.Bool.{Bool, true, false}
+use mathlib.Core.List.{[], _∷_}
+use lib.Dec.{ltb, eqb}
+use Rattle.refusal.specs.Refusal.{RequireViolated, NotApproved, Panic, ExceededSlippage, MathOverflow}
+use Rattle.refusal.specs.Tests.{Tests, _then_, past, outcome}
+use Rattle.accounting.specs.declared.Books.{Books}
+use Rattle.receipt.specs.declared.BooksAfter.{BooksAfter}
+use Rattle.receipt.specs.Receipt.{refusedBooks}
+use Rattle.status.specs.Status.{bit}
+use Rattle.liquidity.specs.Liquidity.{deposited, withdrawn}
 
--- none, or an amount of 0
-unfoldable pub isNone : Answer → Bool
-isNone (Amount amount) = eqb amount 0
-isNone (Refused number) = eqb number ZeroTradingTokens
+-- the tests before the nets'
+abbrev pub frontTests : Bool → ℕ → ℕ → ℕ → Tests
+frontTests true status lp owned = (eqb lp 0, RequireViolated) ∷ (bit 0 status, NotApproved) ∷ []
+frontTests false status lp owned = (eqb lp 0, RequireViolated) ∷ (ltb owned lp, RequireViolated) ∷ (bit 1 status, NotApproved) ∷ []
 
--- 4 where one of them is none, else the first refusal or both amounts
-unfoldable pub someTokens : Answer → Answer → TradingTokenResult
-someTokens a b = cond (isNone a) (T.Refused ZeroTradingTokens) (cond (isNone b) (T.Refused ZeroTradingTokens) (tokensOf a b))
+-- above a maximum, 2
+abbrev pub aboveTests : ℕ → ℕ → ℕ → ℕ → Tests
+aboveTests amount0 amount1 maximum0 maximum1 = (ltb maximum0 amount0, ExceededSlippage) ∷ (ltb maximum1 amount1, ExceededSlippage) ∷ []
 
--- what rounding adds to a quotient that is not 0
-unfoldable pub raiseOf : RoundDirection → ℕ → ℕ
-raiseOf Floor remainder = 0
-raiseOf Ceiling remainder = cond (eqb remainder 0) 0 1
+-- vault 8; supply past u64, 11
+abbrev pub roomTests : ℕ → ℕ → Books → ℕ → Tests
+roomTests amount0 amount1 b lp =
+    (past (b .vault0 + amount0), MathOverflow) ∷ (past (b .vault1 + amount1), MathOverflow) ∷ (past (b .supply + lp), Panic) ∷ []
+
+abbrev pub depositLast : ℕ → ℕ → Books → ℕ → ℕ → ℕ → Tests
+depositLast amount0 amount1 b lp maximum0 maximum1 = aboveTests amount0 amount1 maximum0 maximum1 then roomTests amount0 amount1 b lp
+
+-- below a minimum, 2; lp above supply, 11
+abbrev pub withdrawLast : ℕ → ℕ → Books → ℕ → ℕ → ℕ → Tests
+withdrawLast paid0 paid1 b lp minimum0 minimum1 =
+    (ltb paid0 minimum0, ExceededSlippage)
+    ∷ (ltb paid1 minimum1, ExceededSlippage)
+    ∷ (ltb (b .supply) lp, Panic)
+    ∷ []
+
+-- the amounts are known
+abbrev pub depositRest : ℕ → ℕ → Books → ℕ → ℕ → ℕ → BooksAfter
+depositRest amount0 amount1 b lp maximum0 maximum1 =
+    outcome (depositLast amount0 amount1 b lp maximum0 maximum1) (refusedBooks b) (deposited amount0 amount1 b lp)
+
+abbrev pub withdrawRest : ℕ → ℕ → Books → ℕ → ℕ → ℕ → BooksAfter
+withdrawRest paid0 paid1 b lp minimum0 minimum1 =
+    outcome (withdrawLast paid0 paid1 b lp minimum0 minimum1) (refusedBooks b) (withdrawn paid0 paid1 b lp)

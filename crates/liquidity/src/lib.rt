@@ -1,121 +1,159 @@
-// What deposits and withdrawals share: an LP amount's worth in both tokens (document 01, 'Deposit' and 'Withdrawal').
-use answer::Answer;
+// Deposits and withdrawals, decided over the status and the books: an LP amount's worth in both tokens is paid in, or paid out.
+use accounting::Books;
 use curve::constant_product::LpTokens;
-use curve::constant_product::RoundDirection;
-use curve::constant_product::TradingTokenResult;
 use curve::constant_product::TradingTokens;
-use curve::constant_product::both;
-use curve::constant_product::lp_tokens_to_one_token;
-use refusal::ZERO_TRADING_TOKENS;
-use wide::widening_mul;
-ghost use mathlib.Core.Bool.{not, _&&_};
+use receipt::BooksAfter;
+use receipt::DEPOSIT;
+use receipt::WITHDRAW;
+use receipt::amounts_receipt;
+use receipt::refuse_books;
+use refusal::ACCEPTED;
+use refusal::EXCEEDED_SLIPPAGE;
+use refusal::MATH_OVERFLOW;
+use refusal::NOT_APPROVED;
+use refusal::PANIC;
+use refusal::REQUIRE_VIOLATED;
+use refusal::first2;
+use refusal::first3;
+use refusal::past_sum;
+use worth::worth_of;
 ghost use mathlib.Core.Path.{_≡_};
-ghost use Prim.Native.Nat.{_/_, _%_, _≤_, _<_};
-ghost use lib.Dec.{eqb, leb};
-ghost use Rattle.curve.specs.Stages.{rounded};
-ghost use Rattle.liquidity.specs.Worth.{tokenAmounts};
-ghost use Rattle.liquidity.specs.Stages.{isNone, someTokens, raiseOf};
+ghost use Prim.Native.Nat.{_≤_, min};
+ghost use Rattle.refusal.specs.Tests.{first};
+ghost use Rattle.liquidity.specs.Liquidity.{changeAfter};
+ghost use Rattle.liquidity.specs.Stages.{frontTests, depositRest, withdrawRest};
 
-// None, or an amount of 0.
-fn is_none(answer: Answer) -> bool
-    ensures { λ r. ⌜ r ≡ isNone answer ⌝ }
+// Deposit: lp 0, 10; bit 0 set, 1. Withdrawal: lp 0 or above the owner's, 10; bit 1, 1.
+fn front_number(is_deposit: bool, status: u64, lp: LpTokens, owned: LpTokens) -> u64
+    ensures { λ r. ⌜ r ≡ first (frontTests «is_deposit» status (lp .0) (owned .0)) ⌝ }
 {
-    match answer {
-        Answer::Amount(amount) => amount == 0,
-        Answer::Refused(number) => number == ZERO_TRADING_TOKENS,
+    let none = lp.0 == 0;
+    if is_deposit {
+        return first2(none, REQUIRE_VIOLATED, status / 1 % 2 == 1, NOT_APPROVED);
     }
+    first3(
+        none,
+        REQUIRE_VIOLATED,
+        lp.0 > owned.0,
+        REQUIRE_VIOLATED,
+        status / 2 % 2 == 1,
+        NOT_APPROVED,
+    )
 }
 
-// None or an amount 0, 4; an amount past u64, 11; else both.
-fn some_tokens(amount0: Answer, amount1: Answer) -> TradingTokenResult
-    ensures { λ r. ⌜ r ≡ someTokens amount0 amount1 ⌝ }
-{
-    if is_none(amount0) {
-        return TradingTokenResult::Refused(ZERO_TRADING_TOKENS);
-    }
-    if is_none(amount1) {
-        return TradingTokenResult::Refused(ZERO_TRADING_TOKENS);
-    }
-    both(amount0, amount1)
-}
-
-// Both tokens' parts of any products, refusals too, by the curve's answers.
-fn long_amounts(
+// The amounts are known. Above a maximum, 2; vault 8; supply past u64, 11; else the booking.
+fn deposit_at(
+    books: Books,
     lp: LpTokens,
-    supply: LpTokens,
-    net0: TradingTokens,
-    net1: TradingTokens,
-    direction: RoundDirection,
-) -> TradingTokenResult
-    ensures { λ r. ⌜ r ≡ tokenAmounts direction (lp .0) (supply .0) (net0 .0) (net1 .0) ⌝ }
+    amount0: TradingTokens,
+    amount1: TradingTokens,
+    maximum0: TradingTokens,
+    maximum1: TradingTokens,
+) -> BooksAfter
+    ensures { λ r. ⌜ r ≡ depositRest (amount0 .0) (amount1 .0) books (lp .0) (maximum0 .0) (maximum1 .0) ⌝ }
 {
-    let amount0 = lp_tokens_to_one_token(lp, supply, net0, direction);
-    let amount1 = lp_tokens_to_one_token(lp, supply, net1, direction);
-    some_tokens(amount0, amount1)
-}
-
-// What rounding adds to a quotient that is not 0: 1 where it is up and there is a remainder.
-fn raise(remainder: u64, direction: RoundDirection) -> u64
-    ensures { λ r. ⌜ r ≡ raiseOf direction remainder ⌝ }
-{
-    match direction {
-        RoundDirection::Floor => 0,
-        RoundDirection::Ceiling => {
-            if remainder == 0 {
-                return 0;
-            }
-            1
-        }
+    let above = first2(
+        amount0.0 > maximum0.0,
+        EXCEEDED_SLIPPAGE,
+        amount1.0 > maximum1.0,
+        EXCEEDED_SLIPPAGE,
+    );
+    if above != ACCEPTED {
+        return refuse_books(books, above);
+    }
+    let room = first3(
+        past_sum(books.vault0, amount0.0),
+        MATH_OVERFLOW,
+        past_sum(books.vault1, amount1.0),
+        MATH_OVERFLOW,
+        past_sum(books.supply, lp.0),
+        PANIC,
+    );
+    if room != ACCEPTED {
+        return refuse_books(books, room);
+    }
+    let fees = books.fees;
+    let receipt = amounts_receipt(DEPOSIT, amount0.0, amount1.0, 0, 0, lp.0);
+    BooksAfter {
+        books: Books {
+            vault0: books.vault0 + amount0.0,
+            vault1: books.vault1 + amount1.0,
+            fees,
+            supply: books.supply + lp.0,
+        },
+        receipt,
     }
 }
 
-// Whether a product's part is some: the quotient is not 0.
-fn is_some(product: u64, whole: u64) -> bool
-    ensures { λ r. ⌜ r ≡ not (eqb whole 0) && leb whole product ⌝ }
+// Amounts are capped at the nets.
+fn capped(net: TradingTokens, amount: TradingTokens) -> TradingTokens
+    ensures { λ r. ⌜ r .0 ≡ min (net .0) (amount .0) ⌝ }
 {
-    if whole == 0 {
-        return false;
-    }
-    whole <= product
+    if net.0 <= amount.0 { net } else { amount }
 }
 
-// A product of 64 bits divided and rounded, in one machine division. With a remainder the divisor is above 1, so that no part is past u64.
-fn short_part(product: u64, whole: u64, direction: RoundDirection) -> u64
-    requires { ⌜ (0 < whole) × (whole ≤ product) ⌝ }
-    ensures { λ r. ⌜ r ≡ rounded direction (product / whole) (product % whole) ⌝ }
-{
-    product / whole + raise(product % whole, direction)
-}
-
-// Both tokens' parts of an LP amount: none or an amount 0, 4; an amount past u64, 11. Short products first, and only where both parts are
-// some: these go through no answer in memory. The high halves are tested by themselves: whether they are 0 seldom
-// changes from call to call, so that the processor foresees it.
-pub fn token_amounts(
+// The amounts are known, capped at the nets. Below a minimum, 2; lp above supply, 11; else the booking.
+fn withdraw_at(
+    books: Books,
     lp: LpTokens,
-    supply: LpTokens,
-    net0: TradingTokens,
-    net1: TradingTokens,
-    direction: RoundDirection,
-) -> TradingTokenResult
-    ensures { λ r. ⌜ r ≡ tokenAmounts direction (lp .0) (supply .0) (net0 .0) (net1 .0) ⌝ }
+    paid0: TradingTokens,
+    paid1: TradingTokens,
+    minimum0: TradingTokens,
+    minimum1: TradingTokens,
+) -> BooksAfter
+    requires { ⌜ (paid0 .0 ≤ books .vault0) × (paid1 .0 ≤ books .vault1) ⌝ }
+    ensures { λ r. ⌜ r ≡ withdrawRest (paid0 .0) (paid1 .0) books (lp .0) (minimum0 .0) (minimum1 .0) ⌝ }
 {
-    let whole = supply.0;
-    let product0 = widening_mul(lp.0, net0.0);
-    let product1 = widening_mul(lp.0, net1.0);
-    let low0 = product0.low;
-    let low1 = product1.low;
-    if product0.high != 0 {
-        return long_amounts(lp, supply, net0, net1, direction);
+    let number = first3(
+        paid0.0 < minimum0.0,
+        EXCEEDED_SLIPPAGE,
+        paid1.0 < minimum1.0,
+        EXCEEDED_SLIPPAGE,
+        lp.0 > books.supply,
+        PANIC,
+    );
+    if number != ACCEPTED {
+        return refuse_books(books, number);
     }
-    if product1.high != 0 {
-        return long_amounts(lp, supply, net0, net1, direction);
+    let fees = books.fees;
+    let receipt = amounts_receipt(WITHDRAW, 0, 0, paid0.0, paid1.0, lp.0);
+    BooksAfter {
+        books: Books {
+            vault0: books.vault0 - paid0.0,
+            vault1: books.vault1 - paid1.0,
+            fees,
+            supply: books.supply - lp.0,
+        },
+        receipt,
     }
-    if is_some(low0, whole) {
-        if is_some(low1, whole) {
-            let amount0 = short_part(low0, whole, direction);
-            let amount1 = short_part(low1, whole, direction);
-            return TradingTokenResult::Amounts(TradingTokens(amount0), TradingTokens(amount1));
-        }
+}
+
+// A deposit with two maximums, or a withdrawal with the owner's LP and two minimums.
+pub fn decide(
+    is_deposit: bool,
+    status: u64,
+    books: Books,
+    lp: LpTokens,
+    owned: LpTokens,
+    limit0: TradingTokens,
+    limit1: TradingTokens,
+) -> BooksAfter
+    ensures { λ r. ⌜ r ≡ changeAfter «is_deposit» status books (lp .0) (owned .0) (limit0 .0) (limit1 .0) ⌝ }
+{
+    let front = front_number(is_deposit, status, lp, owned);
+    if front != ACCEPTED {
+        return refuse_books(books, front);
     }
-    long_amounts(lp, supply, net0, net1, direction)
+    let worth = worth_of(is_deposit, books, lp);
+    if worth.number != ACCEPTED {
+        return refuse_books(books, worth.number);
+    }
+    let amount0 = worth.amount0;
+    let amount1 = worth.amount1;
+    if is_deposit {
+        return deposit_at(books, lp, amount0, amount1, limit0, limit1);
+    }
+    let paid0 = capped(worth.net0, amount0);
+    let paid1 = capped(worth.net1, amount1);
+    withdraw_at(books, lp, paid0, paid1, limit0, limit1)
 }

@@ -1,10 +1,11 @@
-// Opening: a new pool from two amounts.
+// Opening: the books and the terms of a new pool, from two amounts.
+use accounting::Books;
 use accounting::FeeCounters;
-use oracle::Ring;
-use pool::state::After;
-use pool::state::Pool;
 use rates::Rates;
+use rates::Terms;
 use rates::rate_number;
+use receipt::OPENING;
+use receipt::Receipt;
 use receipt::amounts_receipt;
 use receipt::refusal_receipt;
 use refusal::ACCEPTED;
@@ -12,83 +13,63 @@ use refusal::EMPTY_SUPPLY;
 use refusal::INIT_LP_AMOUNT_TOO_LESS;
 use refusal::INVALID_FEE_MODEL;
 use refusal::INVALID_INPUT;
+use refusal::either;
+use refusal::first1;
+use refusal::first4;
 use root::isqrt;
 use wide::widening_mul;
 ghost use mathlib.Core.Path.{_≡_};
-ghost use mathlib.Core.Bool.{Bool};
 ghost use Prim.Native.Nat.{_*_};
 ghost use Rattle.root.specs.Root.{root};
 ghost use Rattle.refusal.specs.Tests.{first};
-ghost use Rattle.pool.specs.State.{done};
-ghost use Rattle.pool.specs.Opening.{openingFront, openingTests, openWith, zeroPool, opening};
+ghost use Rattle.opening.specs.Opening.{openingTests, booksWith, zeroTerms, refusedOpening, openingAfter};
 
 // A supply below this is refused.
 const LEAST_SUPPLY: u64 = 101;
 
-// What an opening gives: a new pool with its receipt, and the ring's entries.
-pub struct Opened {
-    pub after: After,
-    pub entries: [u64; 500],
+// The arguments of an opening. `enabled` is 0 or 1.
+pub struct Opening {
+    pub amount0: u64,
+    pub amount1: u64,
+    pub model: u64,
+    pub enabled: u64,
+    pub open_time: u64,
+    pub rates: Rates,
 }
 
-// An amount 0, 6; model 9; enabled not 0 or 1, 3; or 0.
-fn opening_front(amount0: u64, amount1: u64, model: u64, enabled: u64) -> u64
-    ensures { λ r. ⌜ r ≡ first (openingFront amount0 amount1 model enabled) ⌝ }
-{
-    if amount0 == 0 {
-        return EMPTY_SUPPLY;
-    }
-    if amount1 == 0 {
-        return EMPTY_SUPPLY;
-    }
-    if model > 2 {
-        return INVALID_FEE_MODEL;
-    }
-    if enabled > 1 {
-        return INVALID_INPUT;
-    }
-    ACCEPTED
+// What a pool begins with, and the receipt.
+pub struct OpeningAfter {
+    pub books: Books,
+    pub terms: Terms,
+    pub receipt: Receipt,
 }
 
-// The first test of an opening that fails, or 0.
-fn opening_number(
-    amount0: u64,
-    amount1: u64,
-    model: u64,
-    enabled: u64,
-    rates: Rates,
-    supply: u64,
-) -> u64
-    requires { ⌜ supply ≡ root (amount0 * amount1) ⌝ }
-    ensures { λ r. ⌜ r ≡ first (openingTests amount0 amount1 model enabled rates) ⌝ }
+// An amount 0, 6; model 9; enabled not 0 or 1, the rates, 3; supply below 101, 13.
+fn opening_number(opening: Opening, supply: u64) -> u64
+    requires { ⌜ supply ≡ root (opening .amount0 * opening .amount1) ⌝ }
+    ensures { λ r. ⌜ r ≡ first (openingTests opening) ⌝ }
 {
-    let front = opening_front(amount0, amount1, model, enabled);
-    if front != ACCEPTED {
-        return front;
-    }
+    let front = first4(
+        opening.amount0 == 0,
+        EMPTY_SUPPLY,
+        opening.amount1 == 0,
+        EMPTY_SUPPLY,
+        opening.model > 2,
+        INVALID_FEE_MODEL,
+        opening.enabled > 1,
+        INVALID_INPUT,
+    );
+    let rates = opening.rates;
     let rate = rate_number(rates);
-    if rate != ACCEPTED {
-        return rate;
-    }
-    if supply < LEAST_SUPPLY {
-        return INIT_LP_AMOUNT_TOO_LESS;
-    }
-    ACCEPTED
+    let least = first1(supply < LEAST_SUPPLY, INIT_LP_AMOUNT_TOO_LESS);
+    either(front, either(rate, least))
 }
 
-// Status, counters and ring start at 0.
-fn fresh(
-    amount0: u64,
-    amount1: u64,
-    supply: u64,
-    model: u64,
-    enabled: bool,
-    open_time: u64,
-    rates: Rates,
-) -> Pool
-    ensures { λ r. ⌜ r ≡ openWith amount0 amount1 supply model enabled «open_time» rates ⌝ }
+// Counters start at 0.
+fn books_with(amount0: u64, amount1: u64, supply: u64) -> Books
+    ensures { λ r. ⌜ r ≡ booksWith amount0 amount1 supply ⌝ }
 {
-    Pool {
+    Books {
         vault0: amount0,
         vault1: amount1,
         fees: FeeCounters {
@@ -100,65 +81,61 @@ fn fresh(
             creator1: 0,
         },
         supply,
-        status: 0,
-        open_time,
-        fee_model: model,
-        enabled,
-        rates,
-        ring: Ring {
-            used: false,
-            index: 0,
-            mark: 0,
+    }
+}
+
+fn zero_terms() -> Terms
+    ensures { λ r. ⌜ r ≡ zeroTerms ⌝ }
+{
+    Terms {
+        rates: Rates {
+            trade: 0,
+            protocol: 0,
+            fund: 0,
+            creator: 0,
+            share: 0,
         },
+        fee_model: 0,
+        open_time: 0,
+        enabled: false,
     }
 }
 
-// A pool of zeros, which a refused opening gives.
-pub fn zero() -> Pool
-    ensures { λ r. ⌜ r ≡ zeroPool ⌝ }
+// A refused opening gives its number with zeros.
+pub fn refuse_opening(number: u64) -> OpeningAfter
+    ensures { λ r. ⌜ r ≡ refusedOpening number ⌝ }
 {
-    let rates = Rates {
-        trade: 0,
-        protocol: 0,
-        fund: 0,
-        creator: 0,
-        share: 0,
-    };
-    fresh(0, 0, 0, 0, false, 0, rates)
+    let books = books_with(0, 0, 0);
+    let terms = zero_terms();
+    let receipt = refusal_receipt(number);
+    OpeningAfter {
+        books,
+        terms,
+        receipt,
+    }
 }
 
-pub fn open(
-    amount0: u64,
-    amount1: u64,
-    model: u64,
-    enabled: u64,
-    open_time: u64,
-    rates: Rates,
-) -> Opened
-    ensures { λ r. ⌜ done (r .after) (r .entries) ≡ opening amount0 amount1 model enabled «open_time» rates ⌝ }
+pub fn decide(opening: Opening) -> OpeningAfter
+    ensures { λ r. ⌜ r ≡ openingAfter opening ⌝ }
 {
+    let amount0 = opening.amount0;
+    let amount1 = opening.amount1;
     let supply = isqrt(widening_mul(amount0, amount1));
-    let entries = [0u64; 500];
-    let number = opening_number(amount0, amount1, model, enabled, rates, supply);
+    let number = opening_number(opening, supply);
     if number != ACCEPTED {
-        let after = After {
-            pool: zero(),
-            receipt: refusal_receipt(number),
-        };
-        return Opened { after, entries };
+        return refuse_opening(number);
     }
-    let pool = fresh(
-        amount0,
-        amount1,
-        supply,
-        model,
-        enabled == 1,
-        open_time,
-        rates,
-    );
-    let receipt = amounts_receipt(1, amount0, amount1, 0, 0, supply);
-    Opened {
-        after: After { pool, receipt },
-        entries,
+    let rates = opening.rates;
+    let books = books_with(amount0, amount1, supply);
+    let receipt = amounts_receipt(OPENING, amount0, amount1, 0, 0, supply);
+    OpeningAfter {
+        books,
+        terms: Terms {
+            rates,
+            fee_model: opening.model,
+            open_time: opening.open_time,
+            enabled: opening.enabled == 1,
+        },
+        receipt,
     }
 }

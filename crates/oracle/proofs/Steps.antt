@@ -1,47 +1,48 @@
 -- The ring's update, step by step: an index past the last entry, the first use, no seconds, and the sums moved on.
-use mathlib.Core.Path.{_≡_, refl, sym}
-use mathlib.Core.Bool.{Bool, true, false, cond, _||_}
-use Prim.Native.Nat.{ℕ, _-_, _*_, _≤_, _<_}
+use mathlib.Core.Path.{_≡_, refl, sym, ap, _∙_}
+use mathlib.Core.Bool.{Bool, true, false, cond, not, _||_}
+use Prim.Native.Nat.{ℕ, _+_, _-_, _*_, _≤_, _<_}
 use lib.Dec.{ltb, leb, eqb}
 use borrow.Author.Tests.{le-leb, lt-leb}
+use native.Mathlib.Omega.{arith}
+use lib.ListN.{length, List·getD-eq-default}
 use Rattle.wide.specs.Value.{value}
-use Rattle.wide.proofs.Words.{value-u128Of}
-use Rattle.refusal.specs.Tests.{outcome}
+use Rattle.refusal.specs.Tests.{first, outcome}
+use Rattle.refusal.proofs.Stops.{outcome-map, outcome-first, outcome-go}
 use Rattle.oracle.specs.declared.Ring.{Ring}
 use Rattle.oracle.specs.declared.Observation.{Observation}
 use Rattle.oracle.specs.declared.Update.{Update}
 use Rattle.oracle.specs.declared.Update.the-variants.{Refused, Kept, Stored}
-use Rattle.oracle.specs.Ring.{Entries, entryAt, head, past128, ringTests, updated}
-use Rattle.oracle.specs.Update.{answered, update, answerOf, storedIn, entryOf, afterOf}
+use Rattle.oracle.specs.Ring.{Entries, Entry, still, overwrites, entryAt, head, past128, ringTests, acceptedUpdate, observed}
+use Rattle.oracle.specs.Update.{entryOf, afterOf}
 use Rattle.oracle.specs.Stages.{firstUse, sumAfter, movedSums}
 
-module _ (ring : Ring) (entries : Entries) (clock price0 price1 : ℕ) where
-  pub no-entry : 100 ≤ ring .index → answerOf ring entries (Refused 11) ≡ update ring entries clock price0 price1
-  unfolding update ringTests outcome
+module _ (ring : Ring) (o : Observation) (clock price0 price1 : ℕ) where
+  abbrev came : Update
+  came = observed ring (entryOf o) clock price0 price1
+
+  pub no-entry : 100 ≤ ring .index → Refused 11 ≡ came
+  unfolding observed outcome
   no-entry h = simp (le-leb 100 (ring .index) h)
 
-  pub first-used : ring .index < 100 → ring .used ≡ false
-      → answerOf ring entries (firstUse (ring .index) clock) ≡ update ring entries clock price0 price1
-  unfolding update ringTests updated outcome
+  pub first-used : ring .index < 100 → ring .used ≡ false → firstUse (ring .index) clock ≡ came
+  unfolding observed acceptedUpdate outcome
   first-used h u = simp (lt-leb 100 (ring .index) h, u)
 
-  -- with the newest entry read, and the mark found
-  module _ (h : ring .index < 100) (u : ring .used ≡ true) (o : Observation) (e : entryOf o ≡ entryAt entries (ring .index)) (mark : ℕ)
-      (m : mark ≡ cond (eqb (ring .mark) 0) (o .clock) (ring .mark)) where
-    pub kept : (leb clock mark || leb clock (o .clock)) ≡ true
-        → answerOf ring entries (Kept (head (ring .index) mark)) ≡ update ring entries clock price0 price1
-    unfolding update ringTests updated outcome
-    kept s = simp (lt-leb 100 (ring .index) h, u, sym e, sym m, s)
+  -- with the mark found
+  module _ (h : ring .index < 100) (u : ring .used ≡ true) (mark : ℕ) (m : mark ≡ cond (eqb (ring .mark) 0) (o .clock) (ring .mark)) where
+    pub kept : (leb clock mark || leb clock (o .clock)) ≡ true → Kept (head (ring .index) mark) ≡ came
+    unfolding observed acceptedUpdate outcome
+    kept s = simp (lt-leb 100 (ring .index) h, u, sym m, s)
 
     -- the sums moved on, in four ways: price 0 or price 1 × seconds past 2^128 − 1, the newest entry overwritten, or the next one written
     abbrev Moved : Type 0
     Moved =
-        answerOf ring entries
-        (movedSums (ring .index) (o .clock) clock (sumAfter (value (o .sum0)) price0 (clock - mark)) (sumAfter (value (o .sum1)) price1 (clock - mark)))
-        ≡ update ring entries clock price0 price1
+        movedSums (ring .index) (o .clock) clock (sumAfter (value (o .sum0)) price0 (clock - mark)) (sumAfter (value (o .sum1)) price1 (clock - mark))
+        ≡ came
 
     pub moved : mark < clock → o .clock < clock → Moved
-    unfolding update ringTests updated outcome sumAfter
+    unfolding observed acceptedUpdate outcome sumAfter
     moved a b = go (past128 (price0 * (clock - mark))) refl (past128 (price1 * (clock - mark))) refl (ltb (clock - o .clock) 15) refl
       where
         within : leb 100 (ring .index) ≡ false
@@ -56,14 +57,44 @@ module _ (ring : Ring) (entries : Entries) (clock price0 price1 : ℕ) where
         go :
             (x : Bool) → past128 (price0 * (clock - mark)) ≡ x → (y : Bool) → past128 (price1 * (clock - mark)) ≡ y
             → (z : Bool) → ltb (clock - o .clock) 15 ≡ z → Moved
-        go true p y q z w = simp (within, u, sym e, sym m, past-mark, past-entry, p)
-        go false p true q z w = simp (within, u, sym e, sym m, past-mark, past-entry, p, q)
-        go false p false q true w = simp (within, u, sym e, sym m, past-mark, past-entry, p, q, w, value-u128Of)
-        go false p false q false w = simp (within, u, sym e, sym m, past-mark, past-entry, p, q, w, value-u128Of)
+        go true p y q z w = simp (within, u, sym m, past-mark, past-entry, p)
+        go false p true q z w = simp (within, u, sym m, past-mark, past-entry, p, q)
+        go false p false q true w = simp (within, u, sym m, past-mark, past-entry, p, q, w)
+        go false p false q false w = simp (within, u, sym m, past-mark, past-entry, p, q, w)
 
--- an update as it is stored and as it leaves the head
-pub left-by : (ring : Ring) (entries : Entries) (u : Update)
-    → answered (afterOf ring u .number) (afterOf ring u .ring) (storedIn entries u) ≡ answerOf ring entries u
-left-by ring entries (Refused n) = refl
-left-by ring entries (Kept next) = refl
-left-by ring entries (Stored next o) = refl
+-- an index past the last entry reads zeros
+pub past-entries : (entries : Entries) (i : ℕ) → length entries ≡ 500 → 100 ≤ i → record { clock = 0; sum0 = 0; sum1 = 0 } ≡ entryAt entries i
+unfolding entryAt
+past-entries entries i l h =
+    rw (
+      List·getD-eq-default entries 0 {n = 5 * i} (omega arith),
+      List·getD-eq-default entries 0 {n = 5 * i + 1} (omega arith),
+      List·getD-eq-default entries 0 {n = 5 * i + 2} (omega arith),
+      List·getD-eq-default entries 0 {n = 5 * i + 3} (omega arith),
+      List·getD-eq-default entries 0 {n = 5 * i + 4} (omega arith),
+    )
+
+-- ---- an update's number: its first test's that fails; past all of them it is the accepted one
+module _ (ring : Ring) (e : Entry) (clock price0 price1 : ℕ) where
+  accepted-zero : afterOf ring (acceptedUpdate ring e clock price0 price1) .number ≡ 0
+  unfolding acceptedUpdate
+  accepted-zero = go (ring .used) (still ring e clock) (overwrites e clock) _ _ _ _ _ _ _
+    where
+      go :
+          (a b c : Bool) (w x y z : Ring) (o p q : Observation)
+          → afterOf ring (cond (not a) (Stored w o) (cond b (Kept x) (cond c (Stored y p) (Stored z q)))) .number ≡ 0
+      go false b c w x y z o p q = refl
+      go true true c w x y z o p q = refl
+      go true false true w x y z o p q = refl
+      go true false false w x y z o p q = refl
+
+  pub observed-number : afterOf ring (observed ring e clock price0 price1) .number ≡ first (ringTests ring e clock price0 price1)
+  unfolding observed
+  observed-number =
+      outcome-map (λ (u : Update). afterOf ring u .number) _ Refused (acceptedUpdate ring e clock price0 price1)
+      ∙ ap (λ (n : ℕ). outcome (ringTests ring e clock price0 price1) (λ n. n) n) accepted-zero
+      ∙ outcome-first _
+
+  pub observed-accepted : first (ringTests ring e clock price0 price1) ≡ 0 → observed ring e clock price0 price1 ≡ acceptedUpdate ring e clock price0 price1
+  unfolding observed
+  observed-accepted z = sym (outcome-go (ringTests ring e clock price0 price1) Refused (acceptedUpdate ring e clock price0 price1) _ refl refl z)

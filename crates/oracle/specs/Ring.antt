@@ -1,16 +1,35 @@
--- Document 01, 'oracle.rs': the ring of 100 entries, each a clock and two sums modulo 2^128.
+-- Document 01, 'oracle.rs': the ring of 100 entries, each a clock and two sums modulo 2^128, and what an update comes to.
 use Prim.Native.Nat.{ℕ, _+_, _*_, _-_, _/_, _%_, _^_}
-use mathlib.Core.Bool.{Bool, true, false, cond, not, _&&_, _||_}
+use mathlib.Core.Bool.{Bool, true, cond, not, _&&_, _||_}
 use mathlib.Core.List.{List, [], _∷_}
 use lib.Dec.{ltb, leb, eqb}
 use lib.ListN.{getD, set}
 use Rattle.refusal.specs.Refusal.{MathOverflow, Panic}
-use Rattle.refusal.specs.Tests.{Tests}
+use Rattle.wide.specs.Value.{u128Of}
+use Rattle.refusal.specs.Tests.{Tests, outcome}
 use Rattle.oracle.specs.declared.Ring.{Ring}
+use Rattle.oracle.specs.declared.Observation.{Observation}
+use Rattle.oracle.specs.declared.Update.{Update}
+use Rattle.oracle.specs.declared.Update.the-variants.{Refused, Kept, Stored}
+
+-- ---- its numbers
+abbrev pub ObservationNum : ℕ
+ObservationNum = 100
+
+abbrev pub LastIndex : ℕ
+LastIndex = 99
+
+-- the seconds under which the newest entry is overwritten
+abbrev pub UpdateDuration : ℕ
+UpdateDuration = 15
 
 -- ---- the entries: five numbers each, the clock and the two halves of each sum
 abbrev pub Entries : Type 0
 Entries = List ℕ
+
+-- 100 of them
+abbrev pub ringWords : ℕ
+ringWords = 500
 
 pub record Entry : Type 0 where
   pub clock : ℕ
@@ -48,79 +67,65 @@ price net other = other * 2 ^ 32 / net
 abbrev pub added : ℕ → ℕ → ℕ → ℕ
 added sum price seconds = (sum + price * seconds) % 2 ^ 128
 
--- ---- update, at a clock and two prices
+-- ---- update, at a clock and two prices; e is the newest entry
 -- a mark of 0 becomes the entry's clock
-abbrev pub markOf : Ring → Entries → ℕ
-markOf ring entries = cond (eqb (ring .mark) 0) (newest ring entries .clock) (ring .mark)
+abbrev pub markOf : Ring → Entry → ℕ
+markOf ring e = cond (eqb (ring .mark) 0) (e .clock) (ring .mark)
 
 -- the seconds since the mark
-abbrev pub seconds : Ring → Entries → ℕ → ℕ
-seconds ring entries clock = clock - markOf ring entries
+abbrev pub seconds : Ring → Entry → ℕ → ℕ
+seconds ring e clock = clock - markOf ring e
 
 -- no seconds since mark or entry
-abbrev pub still : Ring → Entries → ℕ → Bool
-still ring entries clock = leb clock (markOf ring entries) || leb clock (newest ring entries .clock)
+abbrev pub still : Ring → Entry → ℕ → Bool
+still ring e clock = leb clock (markOf ring e) || leb clock (e .clock)
 
 -- the sums move: the ring is in use, and seconds have passed
-abbrev pub moves : Ring → Entries → ℕ → Bool
-moves ring entries clock = ring .used && not (still ring entries clock)
+abbrev pub moves : Ring → Entry → ℕ → Bool
+moves ring e clock = ring .used && not (still ring e clock)
 
 -- past 2^128 − 1
 abbrev pub past128 : ℕ → Bool
 past128 n = leb (2 ^ 128) n
 
 -- an index of 100 or more is 11; price × seconds past 2^128 − 1 is 8
-unfoldable pub ringTests : Ring → Entries → ℕ → ℕ → ℕ → Tests
-ringTests ring entries clock price0 price1 =
-    (leb 100 (ring .index), Panic)
-    ∷ (moves ring entries clock && past128 (price0 * seconds ring entries clock), MathOverflow)
-    ∷ (moves ring entries clock && past128 (price1 * seconds ring entries clock), MathOverflow)
+abbrev pub ringTests : Ring → Entry → ℕ → ℕ → ℕ → Tests
+ringTests ring e clock price0 price1 =
+    (leb ObservationNum (ring .index), Panic)
+    ∷ (moves ring e clock && past128 (price0 * seconds ring e clock), MathOverflow)
+    ∷ (moves ring e clock && past128 (price1 * seconds ring e clock), MathOverflow)
     ∷ []
 
 -- the index moves on, 99 to 0
 abbrev pub nextIndex : ℕ → ℕ
-nextIndex i = cond (eqb i 99) 0 (i + 1)
+nextIndex i = cond (eqb i LastIndex) 0 (i + 1)
 
 -- under 15 seconds since the entry it is overwritten
-abbrev pub overwrites : Ring → Entries → ℕ → Bool
-overwrites ring entries clock = ltb (clock - newest ring entries .clock) 15
-
--- the head and the entries after an accepted update
-pub record Updated : Type 0 where
-  pub ring : Ring
-  pub entries : Entries
+abbrev pub overwrites : Entry → ℕ → Bool
+overwrites e clock = ltb (clock - e .clock) UpdateDuration
 
 abbrev pub head : ℕ → ℕ → Ring
 head index mark = record { used = true; index = index; mark = mark }
 
--- the newest sums, moved on, as an entry of some clock
-abbrev pub movedOn : Ring → Entries → ℕ → ℕ → ℕ → ℕ → Entry
-movedOn ring entries clock price0 price1 entryClock = record {
+-- the newest sums, moved on, as an observation of some clock; `u128Of` takes a number modulo 2^128
+abbrev pub movedOn : Ring → Entry → ℕ → ℕ → ℕ → ℕ → Observation
+movedOn ring e clock price0 price1 entryClock = record {
   clock = entryClock;
-  sum0 = added (newest ring entries .sum0) price0 (seconds ring entries clock);
-  sum1 = added (newest ring entries .sum1) price1 (seconds ring entries clock);
+  sum0 = u128Of (e .sum0 + price0 * seconds ring e clock);
+  sum1 = u128Of (e .sum1 + price1 * seconds ring e clock);
 }
 
--- first use writes clock and zero sums; no seconds since mark or entry: nothing more;
--- under 15 seconds since the entry the sums are overwritten and its clock stays, else the index moves on; either way the mark becomes the clock
-unfoldable pub updated : Ring → Entries → ℕ → ℕ → ℕ → Updated
-updated ring entries clock price0 price1 =
+-- what an accepted update comes to: first use stores clock and zero sums; no seconds since mark or entry: nothing is stored;
+-- under 15 seconds since the entry it is stored in its place and with its clock, else in the next place
+unfoldable pub acceptedUpdate : Ring → Entry → ℕ → ℕ → ℕ → Update
+acceptedUpdate ring e clock price0 price1 =
     cond (not (ring .used))
-    (record {
-      ring = head (ring .index) clock;
-      entries = withEntry entries (ring .index) (record { clock = clock; sum0 = 0; sum1 = 0 });
-    })
-    (cond (still ring entries clock)
-    (record {
-      ring = head (ring .index) (markOf ring entries);
-      entries = entries;
-    })
-    (cond (overwrites ring entries clock)
-    (record {
-      ring = head (ring .index) clock;
-      entries = withEntry entries (ring .index) (movedOn ring entries clock price0 price1 (newest ring entries .clock));
-    })
-    (record {
-      ring = head (nextIndex (ring .index)) clock;
-      entries = withEntry entries (nextIndex (ring .index)) (movedOn ring entries clock price0 price1 clock);
-    })))
+    (Stored (head (ring .index) clock) (record { clock = clock; sum0 = u128Of 0; sum1 = u128Of 0 }))
+    (cond (still ring e clock)
+    (Kept (head (ring .index) (markOf ring e)))
+    (cond (overwrites e clock)
+    (Stored (head (ring .index) clock) (movedOn ring e clock price0 price1 (e .clock)))
+    (Stored (head (nextIndex (ring .index)) clock) (movedOn ring e clock price0 price1 clock))))
+
+unfoldable pub observed : Ring → Entry → ℕ → ℕ → ℕ → Update
+observed ring e clock price0 price1 = outcome (ringTests ring e clock price0 price1) Refused (acceptedUpdate ring e clock price0 price1)

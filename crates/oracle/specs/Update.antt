@@ -1,48 +1,40 @@
--- The ring's update as the code answers it: a number, the head, and what the entries then hold.
+-- What the cases of `Update` stand for, and the ring's update as the code answers it: a number, the head, and what the entries then hold.
 use Prim.Native.Nat.{ℕ}
 use Rattle.wide.specs.Value.{value}
-use Rattle.refusal.specs.Tests.{outcome}
 use Rattle.oracle.specs.declared.Ring.{Ring}
 use Rattle.oracle.specs.declared.Observation.{Observation}
 use Rattle.oracle.specs.declared.RingAfter.{RingAfter}
 use Rattle.oracle.specs.declared.Update.{Update}
 use Rattle.oracle.specs.declared.Update.the-variants.{Refused, Kept, Stored}
-use Rattle.oracle.specs.Ring.{Entries, Entry, withEntry, Updated, ringTests, updated}
+use Rattle.oracle.specs.Ring.{Entries, Entry, newest, withEntry, observed}
 
-pub record Answered : Type 0 where
-  pub number : ℕ
-  pub ring : Ring
-  pub entries : Entries
-
--- a refused update leaves head and entries as they were
-abbrev pub answered : ℕ → Ring → Entries → Answered
-answered number ring entries = record { number = number; ring = ring; entries = entries }
-
-unfoldable pub update : Ring → Entries → ℕ → ℕ → ℕ → Answered
-update ring entries clock price0 price1 =
-    outcome (ringTests ring entries clock price0 price1)
-    (λ n. answered n ring entries)
-    (let u = updated ring entries clock price0 price1 in answered 0 (u .ring) (u .entries))
-
--- ---- what the cases of `Update` stand for
 -- an observation in whole numbers
 abbrev pub entryOf : Observation → Entry
 entryOf o = record { clock = o .clock; sum0 = value (o .sum0); sum1 = value (o .sum1) }
 
--- the entries that it leaves: only `Stored` writes, at the index of the head that it gives
+-- the entries that an update leaves: only `Stored` writes, at the index of the head that it gives
 abbrev pub storedIn : Entries → Update → Entries
 storedIn entries (Refused n) = entries
 storedIn entries (Kept ring) = entries
 storedIn entries (Stored ring o) = withEntry entries (ring .index) (entryOf o)
 
--- as an answer, on a head and entries
-abbrev pub answerOf : Ring → Entries → Update → Answered
-answerOf ring entries (Refused n) = answered n ring entries
-answerOf ring entries (Kept next) = answered 0 next entries
-answerOf ring entries (Stored next o) = answered 0 next (withEntry entries (next .index) (entryOf o))
-
--- the number and the head alone
+-- the number and the head: a refused update leaves the head as it was
 abbrev pub afterOf : Ring → Update → RingAfter
 afterOf ring (Refused n) = record { number = n; ring = ring }
 afterOf ring (Kept next) = record { number = 0; ring = next }
 afterOf ring (Stored next o) = record { number = 0; ring = next }
+
+-- ---- the whole answer, on a head and entries
+pub record Answered : Type 0 where
+  pub number : ℕ
+  pub ring : Ring
+  pub entries : Entries
+
+abbrev pub answered : ℕ → Ring → Entries → Answered
+answered number ring entries = record { number = number; ring = ring; entries = entries }
+
+abbrev pub answerOf : Ring → Entries → Update → Answered
+answerOf ring entries u = answered (afterOf ring u .number) (afterOf ring u .ring) (storedIn entries u)
+
+unfoldable pub update : Ring → Entries → ℕ → ℕ → ℕ → Answered
+update ring entries clock price0 price1 = answerOf ring entries (observed ring (newest ring entries) clock price0 price1)

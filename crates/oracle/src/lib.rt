@@ -13,15 +13,17 @@ ghost use Prim.Native.Nat.{_<_};
 ghost use lib.Dec.{eqb};
 ghost use lib.ListN.{length};
 ghost use Rattle.wide.specs.Value.{value};
-ghost use Rattle.oracle.specs.Ring.{price, entryAt, withEntry, nextIndex, head};
-ghost use Rattle.oracle.specs.Update.{answered, update as updateOf, answerOf, storedIn, entryOf, afterOf};
+ghost use Rattle.oracle.specs.Ring.{ringWords, price, entryAt, newest as newestOf, withEntry, nextIndex, head, observed};
+ghost use Rattle.oracle.specs.Update.{answered, update as updateOf, storedIn, entryOf, afterOf};
 ghost use Rattle.oracle.specs.Stages.{firstUse, sumAfter, movedEntry, movedSums};
 
 const OBSERVATION_NUM: u64 = 100;
+// Their numbers: a clock and the two halves of each sum.
+pub const RING_WORDS: usize = 500;
 // The seconds under which the newest entry is overwritten.
 const OBSERVATION_UPDATE_DURATION_DEFAULT: u64 = 15;
 
-// The ring's head. `mark` is the original's last_update_timestamp. The entries are lent beside it: 500 numbers, five an entry.
+// The ring's head. `mark` is the original's last_update_timestamp. The entries are lent beside it, five numbers each.
 pub struct Ring {
     pub index: u64,
     pub mark: u64,
@@ -58,11 +60,19 @@ pub fn token_price_x32(net: u64, other: u64) -> U128
     price_x32(other, net)
 }
 
-// The entry at an index, five numbers from 5 × index on.
-fn entry_at(entries: &[u64; 500], index: u64) -> Observation
-    requires { ⌜ index < 100 ⌝ }
+// The entry at an index, five numbers from 5 × index on. Past the last entry it is zeros, as a place past the end reads.
+fn entry_at(entries: &[u64], index: u64) -> Observation
+    requires { ⌜ length (now entries) ≡ ringWords ⌝ }
     ensures { λ r. ⌜ entryOf r ≡ entryAt (now (entries .entry)) index ⌝ }
 {
+    if index >= OBSERVATION_NUM {
+        let zero = U128 { high: 0, low: 0 };
+        return Observation {
+            clock: 0,
+            sum0: zero,
+            sum1: zero,
+        };
+    }
     let at = (5 * index) as usize;
     Observation {
         clock: entries[at],
@@ -173,7 +183,7 @@ fn move_on(
 
 // An entry written at an index. An index past the last entry, which only a head built by hand has, writes nothing.
 fn put_entry(entries: &mut [u64], index: u64, entry: Observation)
-    requires { ⌜ length (now entries) ≡ 500 ⌝ }
+    requires { ⌜ length (now entries) ≡ ringWords ⌝ }
     ensures { λ r. ⌜ now (entries .exit) ≡ withEntry (now (entries .entry)) index (entryOf entry) ⌝ }
 {
     if index < OBSERVATION_NUM {
@@ -187,7 +197,7 @@ fn put_entry(entries: &mut [u64], index: u64, entry: Observation)
 }
 
 // What an update has decided is written: of its cases only `Stored` writes.
-pub fn store(entries: &mut [u64; 500], update: Update)
+pub fn store(entries: &mut [u64; RING_WORDS], update: Update)
     ensures { λ r. ⌜ now (entries .exit) ≡ storedIn (now (entries .entry)) update ⌝ }
 {
     match update {
@@ -198,9 +208,16 @@ pub fn store(entries: &mut [u64; 500], update: Update)
 }
 
 impl Ring {
+    // The newest entry.
+    pub fn newest(self, entries: &[u64; RING_WORDS]) -> Observation
+        ensures { λ r. ⌜ entryOf r ≡ newestOf self (now (entries .entry)) ⌝ }
+    {
+        entry_at(entries, self.index)
+    }
+
     // What a clock and the nets before the swap come to. It decides, and writes nothing.
-    pub fn observe(self, entries: &[u64; 500], clock: u64, net0: u64, net1: u64) -> Update
-        ensures { λ r. ⌜ answerOf self (now (entries .entry)) r ≡ updateOf self (now (entries .entry)) clock (price net0 net1) (price net1 net0) ⌝ }
+    pub fn observe(self, newest: Observation, clock: u64, net0: u64, net1: u64) -> Update
+        ensures { λ r. ⌜ r ≡ observed self (entryOf newest) clock (price net0 net1) (price net1 net0) ⌝ }
     {
         let index = self.index;
         let used = self.used;
@@ -210,7 +227,6 @@ impl Ring {
         if !used {
             return first_use(index, clock);
         }
-        let newest = entry_at(entries, index);
         let mark = mark_or_clock(self.mark, newest.clock);
         if clock <= mark || clock <= newest.clock {
             return Update::Kept(Ring {
@@ -240,10 +256,17 @@ impl Ring {
     }
 
     // The original's `ObservationState::update`: all is decided first, then stored.
-    pub fn update(self, entries: &mut [u64; 500], clock: u64, net0: u64, net1: u64) -> RingAfter
+    pub fn update(
+        self,
+        entries: &mut [u64; RING_WORDS],
+        clock: u64,
+        net0: u64,
+        net1: u64,
+    ) -> RingAfter
         ensures { λ r. ⌜ answered (r .number) (r .ring) (now (entries .exit)) ≡ updateOf self (now (entries .entry)) clock (price net0 net1) (price net1 net0) ⌝ }
     {
-        let update = self.observe(entries, clock, net0, net1);
+        let newest = self.newest(entries);
+        let update = self.observe(newest, clock, net0, net1);
         store(entries, update);
         self.after(update)
     }

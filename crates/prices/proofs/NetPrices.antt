@@ -1,7 +1,6 @@
 -- The nets, and then the prices.
 -- Assumes nothing.
 use mathlib.Core.Path.{_≡_, _∙_}
-use Rattle.refusal.specs.Tests.{outcome}
 use Rattle.refusal.proofs.Stops.{outcome-then, outcome-map}
 use Rattle.accounting.specs.declared.Nets.{Nets}
 use Rattle.accounting.specs.declared.Nets.the-variants as N
@@ -16,7 +15,7 @@ unfoldable pub thenPrices : Nets → Prices
 thenPrices (N.Refused n) = P.Refused n
 thenPrices (N.Of n0 n1) = pricesOf n0 n1
 
-pub nets-then-prices : (p : Pool) → thenPrices (netsAnswer (p .vault0) (p .vault1) (p .fees)) ≡ pricesAnswer p
+pub nets-then-prices : (p : Pool) → thenPrices (netsAnswer (p .books)) ≡ pricesAnswer p
 unfolding thenPrices netsAnswer pricesOf pricesAnswer
 nets-then-prices p =
-    outcome-map thenPrices (counterTests (p .vault0) (p .vault1) (p .fees)) N.Refused (N.Of (net0 p) (net1 p)) ∙ outcome-then _ _ _ _
+    outcome-map thenPrices (counterTests (p .books)) N.Refused (N.Of (net0 p) (net1 p)) ∙ outcome-then _ _ _ _

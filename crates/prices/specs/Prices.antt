@@ -26,7 +26,7 @@ pricesOf net0 net1 = outcome (someTests net0 net1) Refused (Of (u128Of (price ne
 unfoldable pub pricesAnswer : Pool → Prices
 pricesAnswer p =
     outcome
-    (counterTests (p .vault0) (p .vault1) (p .fees)
+    (counterTests (p .books)
     then someTests (net0 p) (net1 p))
     Refused
     (Of (u128Of (price (net0 p) (net1 p))) (u128Of (price (net1 p) (net0 p))))

@@ -1,17 +1,22 @@
--- Document 01, 'The calls' and 'constant_product.rs, then calculator.rs': the limits of a pool's rates, and its fee model.
+-- Document 01, 'The calls' and 'constant_product.rs, then calculator.rs': the limits of a pool's rates, the rate that counts, and its fee model.
 use Prim.Native.Nat.{ℕ, _+_}
-use mathlib.Core.Bool.{Bool, not, _&&_, _||_}
+use mathlib.Core.Bool.{Bool, not, cond, _&&_, _||_}
 use mathlib.Core.List.{[], _∷_}
 use lib.Dec.{ltb, eqb}
 use Rattle.refusal.specs.Refusal.{InvalidInput}
 use Rattle.refusal.specs.Tests.{Tests, _then_}
 use Rattle.rates.specs.declared.Rates.{Rates}
+use Rattle.rates.specs.declared.Terms.{Terms}
 use Rattle.fees.specs.Fees.{Million}
+
+-- the highest that trade and creator rate may sum to
+abbrev pub HighestFeeRate : ℕ
+HighestFeeRate = 999999
 
 -- trade + creator above 999,999, protocol + fund above 1,000,000, summed without wrap, 3
 unfoldable pub rateLimits : Rates → ℕ → Tests
 rateLimits rates creatorRate =
-    (ltb 999999 (rates .trade + creatorRate), InvalidInput)
+    (ltb HighestFeeRate (rates .trade + creatorRate), InvalidInput)
     ∷ (ltb Million (rates .protocol + rates .fund), InvalidInput)
     ∷ []
 
@@ -26,3 +31,7 @@ rateTests rates = limitTests rates then ((ltb Million (rates .share), InvalidInp
 -- fee model 0 means input always, 1 input if token 0 goes in, 2 input if token 1 goes in
 unfoldable pub onInput : ℕ → Bool → Bool
 onInput model zeroIn = eqb model 0 || (eqb model 1 && zeroIn || eqb model 2 && not zeroIn)
+
+-- creator rate counts as 0 unless the pool enables it
+abbrev pub creatorRate : Terms → ℕ
+creatorRate t = cond (t .enabled) (t .rates .creator) 0

@@ -1,10 +1,10 @@
-// A pool's rates with their limits, and its fee model (document 01, 'The calls' and 'constant_product.rs, then calculator.rs').
+// A pool's terms: its rates with their limits, its fee model and its open time (document 01, 'The calls' and 'constant_product.rs, then calculator.rs').
 use fees::FEE_RATE_DENOMINATOR_VALUE;
 use refusal::ACCEPTED;
 use refusal::INVALID_INPUT;
 ghost use mathlib.Core.Path.{_≡_};
 ghost use Rattle.refusal.specs.Tests.{first};
-ghost use Rattle.rates.specs.Rates.{rateLimits, rateTests, onInput};
+ghost use Rattle.rates.specs.Rates.{rateLimits, rateTests, creatorRate, onInput};
 
 // A pool's rates, in millionths.
 pub struct Rates {
@@ -13,6 +13,14 @@ pub struct Rates {
     pub fund: u64,
     pub creator: u64,
     pub share: u64,
+}
+
+// What an opening sets for good. The flag stands last, so that all other fields are copied as whole numbers.
+pub struct Terms {
+    pub rates: Rates,
+    pub fee_model: u64,
+    pub open_time: u64,
+    pub enabled: bool,
 }
 
 // The highest that trade and creator rate may sum to.
@@ -68,4 +76,15 @@ pub fn rate_number(rates: Rates) -> u64
         return INVALID_INPUT;
     }
     ACCEPTED
+}
+
+impl Terms {
+    // The creator rate counts as 0 unless the pool enables it.
+    pub fn adjust_creator_fee_rate(self) -> u64
+        ensures { λ r. ⌜ r ≡ creatorRate self ⌝ }
+    {
+        let enabled = self.enabled;
+        let creator = self.rates.creator;
+        if enabled { creator } else { 0 }
+    }
 }

@@ -1,62 +1,34 @@
-// Numbers of a row held against numbers of an answer.
-use answer::Answer;
-use pool::state::After;
+// The numbers of a row.
 use pool::state::Pool;
+use words::POOL_WORDS;
 use words::pool_of;
-use words::pool_words;
-use words::receipt_words;
-use words::stand_at;
+ghost use Prim.Native.Nat.{_≤_, _<_};
 
-// Whether the numbers stand in the row from a place on.
-pub(crate) fn same(found: &[u64], row: &[u64; 80], at: usize) -> bool {
-    stand_at(found, row, at)
+// One number of a row.
+pub(crate) fn nth(row: &[u64; 80], i: usize) -> u64
+    requires { ⌜ i < 80 ⌝ }
+{
+    row[i]
 }
 
-// The pool in columns 1 to 21.
-pub(crate) fn pool_at(row: &[u64; 80]) -> Pool {
-    let numbers = [
-        row[1],
-        row[2],
-        row[3],
-        row[4],
-        row[5],
-        row[6],
-        row[7],
-        row[8],
-        row[9],
-        row[10],
-        row[11],
-        row[12],
-        row[13],
-        row[14],
-        row[15],
-        row[16],
-        row[17],
-        row[18],
-        row[19],
-        row[20],
-        row[21],
-    ];
+// Whether five numbers stand in a row from a place on. Behind its last number a row has zeros.
+pub(crate) fn same(row: &[u64; 80], at: usize, a: u64, b: u64, c: u64, d: u64, e: u64) -> bool
+    requires { ⌜ at ≤ 75 ⌝ }
+{
+    (nth(row, at) == a)
+        & (nth(row, at + 1) == b)
+        & (nth(row, at + 2) == c)
+        & (nth(row, at + 3) == d)
+        & (nth(row, at + 4) == e)
+}
+
+// The pool of 21 numbers from a place on, in the order of `words`.
+pub(crate) fn pool_at(row: &[u64; 80], at: usize) -> Pool
+    requires { ⌜ at ≤ 59 ⌝ }
+{
+    let mut numbers = [0u64; POOL_WORDS];
+    for i in 0..POOL_WORDS {
+        numbers[i] = row[at + i];
+    }
     pool_of(numbers)
-}
-
-// Number, receipt and pool from a place on.
-pub(crate) fn after_agrees(after: After, row: &[u64; 80], at: usize) -> bool {
-    let pool = after.pool;
-    let receipt = after.receipt;
-    if at > 60 {
-        return false;
-    }
-    if !same(&receipt_words(receipt), row, at) {
-        return false;
-    }
-    same(&pool_words(pool), row, at + 16)
-}
-
-// Number and value from a place on; a refused function gives 0.
-pub(crate) fn answer_agrees(answer: Answer, row: &[u64; 80], at: usize) -> bool {
-    match answer {
-        Answer::Amount(amount) => same(&[0, amount], row, at),
-        Answer::Refused(number) => same(&[number, 0], row, at),
-    }
 }

@@ -13,6 +13,13 @@ use Rattle.columns.specs.Column.{readColumn, column, hasRoom}
 abbrev pub newline : ℕ
 newline = 10
 
+-- the bytes of a row, without and with its newline
+abbrev pub lineBytes : ℕ
+lineBytes = 102
+
+abbrev pub rowBytes : ℕ
+rowBytes = 103
+
 -- ---- a row that is read
 -- a reading, and what is made of its number
 abbrev pub with : Reading → (ℕ → Row) → Row
@@ -26,7 +33,7 @@ columnAt bytes i = readColumn (take 20 (drop (2 + 20 * i) bytes))
 -- any other length or column is unreadable
 unfoldable pub readRow : List ℕ → Row
 readRow bytes =
-    cond (not (eqb (length bytes) 102)) R.Unreadable
+    cond (not (eqb (length bytes) lineBytes)) R.Unreadable
     (with (readColumn (take 2 bytes)) λ kind.
     with (columnAt bytes 0) λ a.
     with (columnAt bytes 1) λ b.
@@ -39,9 +46,9 @@ readRow bytes =
 unfoldable pub writeRow : ℕ → ℕ → ℕ → ℕ → ℕ → ℕ → List ℕ
 writeRow kind a b c d e = column 2 kind ++ (column 20 a ++ (column 20 b ++ (column 20 c ++ (column 20 d ++ (column 20 e ++ (newline ∷ []))))))
 
--- a longer text with a row of 103 bytes at such a place; a text too short as it was
+-- a longer text with such a row at such a place; a text too short as it was
 unfoldable pub withRow : List ℕ → ℕ → List ℕ → List ℕ
-withRow text at row = cond (hasRoom text at 103) (take at text ++ (row ++ drop (at + 103) text)) text
+withRow text at row = cond (hasRoom text at rowBytes) (take at text ++ (row ++ drop (at + rowBytes) text)) text
 
 -- ---- the rows of an input: a row ends at a newline, or at the end of the input where bytes follow the last newline
 -- the bytes of the row that is being read, and those still to come

@@ -6,10 +6,12 @@ ghost use mathlib.Core.Path.{_≡_};
 ghost use Prim.Native.Nat.{_<_};
 ghost use lib.ListN.{length};
 ghost use Rattle.columns.specs.Column.{hasRoom};
-ghost use Rattle.rows.specs.Row.{columnAt, readRow, writeRow, withRow};
+ghost use Rattle.rows.specs.Row.{lineBytes, rowBytes, columnAt, readRow, writeRow, withRow};
 
-// A row that is written, with its newline. Of a row that is begun no more bytes are kept.
-pub const ROW_BYTES: usize = 103;
+// The bytes of a row before its newline.
+pub const LINE_BYTES: usize = 102;
+// A row with its newline. Of a row that is begun no more bytes are kept.
+pub const ROW_BYTES: usize = LINE_BYTES + 1;
 
 pub enum Row {
     Unreadable,
@@ -25,7 +27,7 @@ pub enum Row {
 
 // The number in column i of the five.
 fn read_number(bytes: &[u8], i: usize) -> Reading
-    requires { ⌜ (length (now bytes) ≡ 102) × (i < 5) ⌝ }
+    requires { ⌜ (length (now bytes) ≡ lineBytes) × (i < 5) ⌝ }
     ensures { λ r. ⌜ r ≡ columnAt (now (bytes .entry)) i ⌝ }
 {
     let at = 2 + 20 * i;
@@ -36,7 +38,7 @@ fn read_number(bytes: &[u8], i: usize) -> Reading
 pub fn read_row(bytes: &[u8]) -> Row
     ensures { λ r. ⌜ r ≡ readRow (now (bytes .entry)) ⌝ }
 {
-    if bytes.len() != 102 {
+    if bytes.len() != LINE_BYTES {
         return Row::Unreadable;
     }
     let Reading::Reads(kind) = read_column(&bytes[..2]) else {
@@ -69,7 +71,7 @@ pub fn read_row(bytes: &[u8]) -> Row
 
 // A row with its newline, which fills the whole of what is lent.
 fn fill_row(out: &mut [u8], number: u64, a: u64, b: u64, c: u64, d: u64, e: u64)
-    requires { ⌜ length (now out) ≡ 103 ⌝ }
+    requires { ⌜ length (now out) ≡ rowBytes ⌝ }
     ensures { λ r. ⌜ now (out .exit) ≡ writeRow number a b c d e ⌝ }
 {
     write_column(out, 0, 2, number);
@@ -78,11 +80,11 @@ fn fill_row(out: &mut [u8], number: u64, a: u64, b: u64, c: u64, d: u64, e: u64)
     write_column(out, 42, 20, c);
     write_column(out, 62, 20, d);
     write_column(out, 82, 20, e);
-    out[102] = b'\n';
+    out[LINE_BYTES] = b'\n';
 }
 
 // A row with its newline.
-pub fn write_row(out: &mut [u8; 103], number: u64, a: u64, b: u64, c: u64, d: u64, e: u64)
+pub fn write_row(out: &mut [u8; ROW_BYTES], number: u64, a: u64, b: u64, c: u64, d: u64, e: u64)
     ensures { λ r. ⌜ now (out .exit) ≡ writeRow number a b c d e ⌝ }
 {
     fill_row(out, number, a, b, c, d, e);
@@ -99,7 +101,7 @@ pub fn write_row_at(
     d: u64,
     e: u64,
 ) -> bool
-    ensures { λ r. ⌜ (r ≡ hasRoom (now (text .entry)) at 103) × (now (text .exit) ≡ withRow (now (text .entry)) at (writeRow number a b c d e)) ⌝ }
+    ensures { λ r. ⌜ (r ≡ hasRoom (now (text .entry)) at rowBytes) × (now (text .exit) ≡ withRow (now (text .entry)) at (writeRow number a b c d e)) ⌝ }
 {
     if text.len() < ROW_BYTES {
         return false;

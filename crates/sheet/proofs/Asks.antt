@@ -7,13 +7,14 @@ use mathlib.Core.List.{List}
 use lib.Dec.{eqb}
 use borrow.Author.Tests.{eq-eqb, ne-eqb}
 use Rattle.refusal.specs.Refusal.{UnreadableRow}
-use Rattle.pool.specs.Opening.{opening}
-use Rattle.history.specs.declared.call.Call.{Call}
-use Rattle.history.specs.declared.call.Call.the-variants.{SwapBaseInput, SwapBaseOutput, Deposit, Withdraw, Settle, SetStatus}
-use Rattle.history.specs.Run.{stateOf, next}
+use Rattle.pool.specs.Calls.{opening}
+use Rattle.calls.specs.declared.Call.{Call}
+use Rattle.calls.specs.declared.Call.the-variants.{SwapBaseInput, SwapBaseOutput, Deposit, Withdraw, Settle, SetStatus}
+use Rattle.calls.specs.Next.{stateOf, next}
+use Rattle.words.specs.Words.{shareOf}
 use Rattle.memory.specs.Memory.{Memory, calledOn}
 use Rattle.rows.specs.declared.row.Row.the-variants.{Row as row}
-use Rattle.sheet.specs.Sheet.{Sheet, Turn, refusedRow, called, keepRates, replaced, unlessSpare, perform}
+use Rattle.sheet.specs.Sheet.{Sheet, Turn, refusedRow, called, keepRates, replaced, unlessSpare, perform, openingWith}
 use Rattle.sheet.specs.Stages.{readable, callOf, calledFor}
 use Rattle.sheet.proofs.Picks.{picks-true, picks-false}
 
@@ -57,7 +58,7 @@ module _ (s : Sheet) where
   keeps-rates kind a b c d e is = picks-true (eqb kind 0) _ _ (eq-eqb kind 0 is)
 
   -- kind 1
-  pub opens : (kind a b c d e : ℕ) → kind ≡ 1 → replaced s (opening a b c d e (s .rates)) ≡ perform s (row kind a b c d e)
+  pub opens : (kind a b c d e : ℕ) → kind ≡ 1 → replaced s (opening (openingWith a b c d e (s .rates))) ≡ perform s (row kind a b c d e)
   unfolding perform
   opens kind a b c d e is = sym (ap (λ (k : ℕ). perform s (row k a b c d e)) is)
 
@@ -69,7 +70,7 @@ module _ (s : Sheet) where
       (either (eqb kind 3) (eqb e 0) _ (SwapBaseOutput a b c d) _ _ _ refl
       (either (eqb kind 4) (eqb d 0 && eqb e 0) _ (Deposit (record { 0 = a }) (record { 0 = b }) (record { 0 = c })) _ _ _ refl
       (either (eqb kind 5) (eqb e 0) _ (Withdraw (record { 0 = a }) (record { 0 = b }) (record { 0 = c }) (record { 0 = d })) _ _ _ refl
-      (either (eqb kind 6) (eqb a 0 && eqb b 0 && eqb c 0 && eqb d 0 && eqb e 0) _ (Settle (s .pool .rates .share)) _ _ _ refl
+      (either (eqb kind 6) (eqb a 0 && eqb b 0 && eqb c 0 && eqb d 0 && eqb e 0) _ (Settle (shareOf (s .pool))) _ _ _ refl
       (last (eqb kind 7) (eqb c 0 && eqb d 0 && eqb e 0) (SetStatus a b) _ refl)))))
       ∙ picks-false (eqb kind 1) _ _ (ne-eqb kind 1 not-opening)
       ∙ picks-false (eqb kind 0) _ _ (ne-eqb kind 0 not-rates)

@@ -1,4 +1,5 @@
 pub mod Picks
 pub mod Taken
 pub mod Asks
-pub mod Example
+pub mod Effects
+pub mod Within

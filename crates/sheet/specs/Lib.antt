@@ -1,3 +1,4 @@
 pub mod Sheet
+pub mod Lent
 pub mod Stages
-pub mod Example
+pub mod Turns

@@ -13,17 +13,13 @@ use Rattle.pool.specs.declared.state.Pool.{Pool}
 use Rattle.pool.specs.declared.state.After.{After}
 use Rattle.receipt.specs.Receipt.{refusal}
 use Rattle.pool.specs.State.{net0, net1, Done}
-use Rattle.pool.specs.Opening.{zeroRates, zeroPool, zeroEntries, opening}
-use Rattle.pool.specs.SwapBaseInput.{swapBaseInput}
-use Rattle.pool.specs.SwapBaseOutput.{swapBaseOutput}
-use Rattle.pool.specs.Liquidity.{deposit, withdraw}
-use Rattle.pool.specs.Settlement.{settlement}
-use Rattle.pool.specs.Status.{setStatus}
+use Rattle.opening.specs.declared.Opening.{Opening}
+use Rattle.opening.specs.Opening.{zeroRates}
+use Rattle.pool.specs.Calls.{zeroPool, zeroEntries, opening, swapBaseInput, swapBaseOutput, deposit, withdraw, settlement, setStatus}
 use Rattle.rows.specs.declared.row.Row.{Row}
 use Rattle.rows.specs.declared.row.Row.the-variants.{Unreadable, Row as row}
-use Rattle.sheet.specs.declared.turn.Sheet.{Sheet as HeldSheet}
-use Rattle.sheet.specs.declared.turn.Turn.{Turn as HeldTurn}
 use Rattle.rows.specs.Row.{readRow, writeRow, rows}
+use Rattle.receipt.specs.Kind as Kind
 
 -- the rates for the next opening, the pool, and the ring's entries
 pub record Sheet : Type 0 where
@@ -35,17 +31,10 @@ pub record Sheet : Type 0 where
 unfoldable pub emptySheet : Sheet
 emptySheet = record { rates = zeroRates; pool = zeroPool; entries = zeroEntries }
 
--- the sheet that the code holds, with the entries that are lent beside it
-abbrev pub sheetOf : HeldSheet → Entries → Sheet
-sheetOf s entries = record { rates = s .rates; pool = s .pool; entries = entries }
-
 -- what a row does: the sheet after it, and the receipt
 pub record Turn : Type 0 where
   pub sheet : Sheet
   pub receipt : Receipt
-
-abbrev pub turnOf : HeldTurn → Entries → Turn
-turnOf t entries = record { sheet = sheetOf (t .sheet) entries; receipt = t .receipt }
 
 abbrev pub refusedRow : Sheet → ℕ → Turn
 refusedRow s n = record { sheet = s; receipt = refusal n }
@@ -64,7 +53,7 @@ keepRates s rates =
     (record { sheet = record { rates = rates; pool = s .pool; entries = s .entries }; receipt = refusal 0 })
     (refusedRow s (first (rateTests rates)))
 
--- kind 1: an accepted opening replaces pool and ring; a refused one keeps them
+-- an accepted opening replaces pool and ring; a refused one keeps them
 unfoldable pub replaced : Sheet → Done → Turn
 replaced s d = cond (eqb (d .after .receipt .number) 0) (called s d) (refusedRow s (d .after .receipt .number))
 
@@ -72,48 +61,59 @@ replaced s d = cond (eqb (d .after .receipt .number) 0) (called s d) (refusedRow
 abbrev pub unlessSpare : Bool → Sheet → Turn → Turn
 unlessSpare spare s t = cond spare t (refusedRow s UnreadableRow)
 
+-- kind 1: amounts, model, enabled, open time; the rates are those of the last accepted row of kind 0
+abbrev pub openingWith : ℕ → ℕ → ℕ → ℕ → ℕ → Rates → Opening
+openingWith amount0 amount1 model enabled openTime rates = record {
+  amount0 = amount0;
+  amount1 = amount1;
+  model = model;
+  enabled = enabled;
+  «open_time» = openTime;
+  rates = rates;
+}
+
 unfoldable pub perform : Sheet → Row → Turn
 perform s Unreadable = refusedRow s UnreadableRow
 perform s (row kind a b c d e) =
     cond (eqb kind 0) (keepRates s (record { trade = a; protocol = b; fund = c; creator = d; share = e }))
-    (cond (eqb kind 1) (replaced s (opening a b c d e (s .rates)))
-    (cond (eqb kind 2) (unlessSpare (eqb e 0) s (called s (swapBaseInput (s .pool) (s .entries) a b c d)))
-    (cond (eqb kind 3) (unlessSpare (eqb e 0) s (called s (swapBaseOutput (s .pool) (s .entries) a b c d)))
-    (cond (eqb kind 4) (unlessSpare (eqb d 0 && eqb e 0) s (calledBesides s (deposit (s .pool) a b c)))
-    (cond (eqb kind 5) (unlessSpare (eqb e 0) s (calledBesides s (withdraw (s .pool) a b c d)))
-    (cond (eqb kind 6) (unlessSpare (eqb a 0 && eqb b 0 && eqb c 0 && eqb d 0 && eqb e 0) s (calledBesides s (settlement (s .pool) (s .pool .rates .share))))
-    (cond (eqb kind 7) (unlessSpare (eqb c 0 && eqb d 0 && eqb e 0) s (calledBesides s (setStatus (s .pool) a b)))
+    (cond (eqb kind Kind.Opening) (replaced s (opening (openingWith a b c d e (s .rates))))
+    (cond (eqb kind Kind.SwapBaseInput) (unlessSpare (eqb e 0) s (called s (swapBaseInput (s .pool) (s .entries) a b c d)))
+    (cond (eqb kind Kind.SwapBaseOutput) (unlessSpare (eqb e 0) s (called s (swapBaseOutput (s .pool) (s .entries) a b c d)))
+    (cond (eqb kind Kind.Deposit) (unlessSpare (eqb d 0 && eqb e 0) s (calledBesides s (deposit (s .pool) a b c)))
+    (cond (eqb kind Kind.Withdraw) (unlessSpare (eqb e 0) s (calledBesides s (withdraw (s .pool) a b c d)))
+    (cond (eqb kind Kind.SettleCreatorFee) (unlessSpare (eqb a 0 && eqb b 0 && eqb c 0 && eqb d 0 && eqb e 0) s (calledBesides s (settlement (s .pool) (s .pool .terms .rates .share))))
+    (cond (eqb kind Kind.SetStatus) (unlessSpare (eqb c 0 && eqb d 0 && eqb e 0) s (calledBesides s (setStatus (s .pool) a b)))
     (refusedRow s UnreadableRow))))))))
 
 -- ---- the row that it yields: refusal number or 0, two amounts, nets, supply
 -- a swap's input and output; tokens 0 and 1 of a deposit, withdrawal or settlement; else 0
 abbrev pub isSwap : Receipt → Bool
-isSwap x = eqb (x .kind) 2 || eqb (x .kind) 3
+isSwap x = eqb (x .kind) Kind.SwapBaseInput || eqb (x .kind) Kind.SwapBaseOutput
 
 abbrev pub swapInput : Receipt → ℕ
-swapInput x = cond (eqb (x .direction) 0) (x .in0) (x .in1)
+swapInput x = cond (eqb (x .trade .direction) 0) (x .paid .in0) (x .paid .in1)
 
 abbrev pub swapOutput : Receipt → ℕ
-swapOutput x = cond (eqb (x .direction) 0) (x .out1) (x .out0)
+swapOutput x = cond (eqb (x .trade .direction) 0) (x .paid .out1) (x .paid .out0)
 
 abbrev pub firstAmount : Receipt → ℕ
 firstAmount x =
     cond (isSwap x) (swapInput x)
-    (cond (eqb (x .kind) 4) (x .in0)
-    (cond (eqb (x .kind) 5 || eqb (x .kind) 6) (x .out0)
+    (cond (eqb (x .kind) Kind.Deposit) (x .paid .in0)
+    (cond (eqb (x .kind) Kind.Withdraw || eqb (x .kind) Kind.SettleCreatorFee) (x .paid .out0)
     0))
 
 abbrev pub secondAmount : Receipt → ℕ
 secondAmount x =
     cond (isSwap x) (swapOutput x)
-    (cond (eqb (x .kind) 4) (x .in1)
-    (cond (eqb (x .kind) 5 || eqb (x .kind) 6) (x .out1)
+    (cond (eqb (x .kind) Kind.Deposit) (x .paid .in1)
+    (cond (eqb (x .kind) Kind.Withdraw || eqb (x .kind) Kind.SettleCreatorFee) (x .paid .out1)
     0))
 
 unfoldable pub yielded : Turn → List ℕ
 yielded t =
     writeRow (t .receipt .number) (firstAmount (t .receipt)) (secondAmount (t .receipt))
-    (net0 (t .sheet .pool)) (net1 (t .sheet .pool)) (t .sheet .pool .supply)
+    (net0 (t .sheet .pool)) (net1 (t .sheet .pool)) (t .sheet .pool .books .supply)
 
 -- ---- the whole sheet
 -- the rows in turn

@@ -1,65 +1,73 @@
--- How much a piece can take and write: what a caller that lends the memory wants to know.
-use Prim.Native.Nat.{ℕ, suc, _-_, _≤_, _<_}
-use mathlib.Core.Path.{_≡_, refl, ap}
+-- What a caller that lends the memory wants to know: a piece with room for an answer to each of its bytes is answered whole, and no more is
+-- written than the output holds.
+use Prim.Native.Nat.{ℕ, _+_, _-_, _*_, _≤_}
+use mathlib.Core.Path.{_≡_, refl, sym, ap, _∙_}
 use mathlib.Core.Bool.{Bool, true, false, cond}
 use mathlib.Core.List.{List, [], _∷_, _++_}
 use native.Mathlib.Omega.{arith}
-use borrow.Author.Tests.{ltb-false}
-use lib.Dec.{eqb, ltb}
-use lib.ListN.{length, drop, length-append}
-use Rattle.oracle.specs.Ring.{Entries}
-use Rattle.rows.specs.Row.{newline, readRow}
-use Rattle.sheet.specs.Sheet.{Sheet, Turn, perform, yielded}
-use Rattle.stream.specs.declared.feed.Fed.{Fed as HeldFed}
-use Rattle.stream.specs.declared.feed.Ended.{Ended as HeldEnded}
-use Rattle.stream.specs.Pieces.{Fed, kept, nothingTaken, ahead, feed, Finished, over, Left, leftBy, leftOf, LeftAtEnd, leftAtEnd, endOf}
-use Rattle.stream.specs.HoweverCut.{GoesOn}
-use Rattle.stream.proofs.Answering.{yielded-length}
-use Rattle.stream.proofs.Cuts.{goes-on}
+use borrow.Author.Tests.{le-ltb}
+use lib.Dec.{eqb}
+use lib.ListN.{length, take, drop, length-append}
+use Rattle.refusal.proofs.Stops.{outcome-go}
+use Rattle.rates.specs.declared.Rates.{Rates}
+use Rattle.rows.specs.Row.{newline, rowBytes, readRow}
+use Rattle.memory.specs.Memory.{recordTests}
+use Rattle.memory.specs.Steps.{IsRecord}
+use Rattle.memory.proofs.Readable.{is-record}
+use Rattle.sheet.specs.Sheet.{Sheet, perform, yielded}
+use Rattle.sheet.specs.Lent.{sheetIn}
+use Rattle.stream.specs.Pieces.{Fed, kept, ahead, feed, finish, Finished, over, leftBy, leftAtEnd}
+use Rattle.stream.specs.Lent.{FedMemory, fedWith, leftWords, fedOver, EndMemory, endWith, endWords, endedOver}
 
--- no more than the piece has, no more than there is room for
-abbrev Within : ℕ → ℕ → Fed → Type 0
-Within room bytes f = (f .taken ≤ bytes) × (length (f .written) ≤ room)
-
-one-byte : (room bytes : ℕ) (f : Fed) → Within room bytes f → Within room (suc bytes) (ahead [] f)
-one-byte room bytes f w = (omega arith, w .1)
-
-one-row : (room bytes : ℕ) (t : Turn) (f : Fed) → 103 ≤ room → Within (room - 103) bytes f → Within room (suc bytes) (ahead (yielded t) f)
-one-row room bytes t f h w = (omega arith, rw (length-append (yielded t) (f .written), yielded-length t) (omega arith))
-
-pub within : (room : ℕ) (s : Sheet) (begun bytes : List ℕ) → Within room (length bytes) (feed room s begun bytes)
+-- ---- room for an answer to each byte is as good as more
+pub roomy :
+    (room more : ℕ) (s : Sheet) (begun bytes : List ℕ) → rowBytes * length bytes ≤ room → rowBytes * length bytes ≤ more
+    → feed room s begun bytes ≡ feed more s begun bytes
 unfolding feed
-within room s begun [] = (omega arith, omega arith)
-within room s begun (byte ∷ bytes) =
+roomy room more s begun [] h k = refl
+roomy room more s begun (byte ∷ bytes) h k =
     let t = perform s (readRow begun) in
-    let rest = feed (room - 103) (t .sheet) [] bytes in
-    let more = feed room s (kept (begun ++ (byte ∷ []))) bytes in
-    go (ltb room 103) (eqb byte newline) refl (ahead (yielded t) rest) (ahead [] more)
-    (λ h. one-row room (length bytes) t rest h (within (room - 103) (t .sheet) [] bytes))
-    (one-byte room (length bytes) more (within room s (kept (begun ++ (byte ∷ []))) bytes))
+    rw (le-ltb room rowBytes (omega arith), le-ltb more rowBytes (omega arith))
+    (go (eqb byte newline)
+    (ap (ahead (yielded t)) (roomy (room - rowBytes) (more - rowBytes) (t .sheet) [] bytes (omega arith) (omega arith)))
+    (ap (ahead []) (roomy room more s (kept (begun ++ (byte ∷ []))) bytes (omega arith) (omega arith))))
   where
-    go : (full ends : Bool) → ltb room 103 ≡ full → (f g : Fed) → (103 ≤ room → Within room (suc (length bytes)) f) → Within room (suc (length bytes)) g
-        → Within room (suc (length bytes)) (cond full (nothingTaken s begun) (cond ends f g))
-    go true ends e f g row other = (omega arith, omega arith)
-    go false true e f g row other = row (ltb-false room 103 e)
-    go false false e f g row other = other
+    go : (ends : Bool) {f g f′ g′ : Fed} → f ≡ f′ → g ≡ g′ → cond ends f g ≡ cond ends f′ g′
+    go true row other = row
+    go false row other = other
 
--- ---- of what the code answers
-pub fed-within :
-    (f : HeldFed) (entries : Entries) (held output′ output : List ℕ) (s : Sheet) (begun input : List ℕ)
-    → leftOf f entries held output′ ≡ leftBy output (feed (length output) s begun input)
-    → (f .taken ≤ length input) × (f .written ≤ length output) × (103 ≤ length output → 0 < length input → 0 < f .taken)
-unfolding leftBy GoesOn
-fed-within f entries held output′ output s begun input e =
-    let taken : f .taken ≡ feed (length output) s begun input .taken = ap (λ (l : Left). l .taken) e in
-    let written : f .written ≡ length (feed (length output) s begun input .written) = ap (λ (l : Left). l .written) e in
-    let w = within (length output) s begun input in
-    (rw taken (w .0), rw written (w .1), λ h k. rw taken (goes-on (length output) s begun input h k))
+-- ---- a piece, on the record of a pool
+module _ (rates : Rates) (begun : ℕ) (w e held input output : List ℕ) (is : IsRecord w) where
+  pub piece-whole :
+      {m : FedMemory} → rowBytes * length input ≤ length output → m ≡ fedOver rates begun w e held input output
+      → m ≡ leftWords (leftBy output (feed (rowBytes * length input) (sheetIn rates w e) (take begun held) input))
+  unfolding fedOver recordTests
+  piece-whole h did =
+      did
+      ∙ (sym (outcome-go (recordTests w) (λ number. fedWith number rates begun w e held 0 0 output) _ 0 refl (sym (is .0)) refl)
+      ∙ ap (λ (f : Fed). leftWords (leftBy output f)) (roomy (length output) (rowBytes * length input) (sheetIn rates w e) (take begun held) input h (omega arith)))
 
+-- ---- what is left of it: a pool's record still, and an output that holds all that is written
+pub left-record : {m : FedMemory} (output : List ℕ) (f : Fed) → m ≡ leftWords (leftBy output f) → IsRecord (m .pool)
+unfolding leftBy
+left-record output f did = rw (ap (λ (m : FedMemory). m .pool) did) (is-record (f .sheet .pool))
+
+pub left-within : {m : FedMemory} (output : List ℕ) (f : Fed) → m ≡ leftWords (leftBy output f) → m .written ≤ length (m .output)
+unfolding over leftBy
+left-within {m} output f did =
+    let written : m .written ≡ length (f .written) = ap (λ (m : FedMemory). m .written) did in
+    let is : m .output ≡ f .written ++ drop (length (f .written)) output = ap (λ (m : FedMemory). m .output) did in
+    omega (arith, written, ap length is, length-append (f .written) (drop (length (f .written)) output))
+
+-- ---- the end of the input, likewise
 pub ended-within :
-    (e : HeldEnded) (entries : Entries) (output′ output : List ℕ) (f : Finished) → endOf e entries output′ ≡ leftAtEnd output f → e .written ≤ length output′
-unfolding over leftAtEnd
-ended-within e entries output′ output f h =
-    let written : e .written ≡ length (f .written) = ap (λ (l : LeftAtEnd). l .written) h in
-    let is : output′ ≡ f .written ++ drop (length (f .written)) output = ap (λ (l : LeftAtEnd). l .output) h in
+    {m : EndMemory} (rates : Rates) (begun : ℕ) (w e held output : List ℕ) → IsRecord w → m ≡ endedOver rates begun w e held output
+    → m .written ≤ length (m .output)
+unfolding over leftAtEnd endedOver recordTests
+ended-within {m} rates begun w e held output is did =
+    let f : Finished = finish (sheetIn rates w e) (take begun held) in
+    let words : m ≡ endWords (leftAtEnd output f) =
+    did ∙ sym (outcome-go (recordTests w) (λ number. endWith number rates w e 0 output) (endWords (leftAtEnd output f)) 0 refl (sym (is .0)) refl) in
+    let written : m .written ≡ length (f .written) = ap (λ (m : EndMemory). m .written) words in
+    let is : m .output ≡ f .written ++ drop (length (f .written)) output = ap (λ (m : EndMemory). m .output) words in
     omega (arith, written, ap length is, length-append (f .written) (drop (length (f .written)) output))

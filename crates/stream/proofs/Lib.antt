@@ -3,6 +3,5 @@ pub mod Holding
 pub mod Answering
 pub mod Taking
 pub mod Leaving
+pub mod GoesOn
 pub mod Bounds
-pub mod Alike
-pub mod Cuts

@@ -12,8 +12,9 @@ use lib.ListN.{length, take, drop, length-append, length-drop, take-append-drop}
 use lib.Seq.{drop-drop, take-at, drop-at, take-length, drop-length, length-take-le}
 use Rattle.rows.specs.Row.{newline, readRow, withRow}
 use Rattle.oracle.specs.Ring.{Entries}
-use Rattle.sheet.specs.declared.turn.Sheet.{Sheet as HeldSheet}
-use Rattle.sheet.specs.Sheet.{Sheet, sheetOf, Turn, perform, yielded}
+use Rattle.rates.specs.declared.Rates.{Rates}
+use Rattle.sheet.specs.Sheet.{Sheet, Turn, perform, yielded}
+use Rattle.sheet.specs.Lent.{sheetIn}
 use Rattle.stream.specs.Pieces.{Fed, kept, nothingTaken, ahead, feed, holding, over, leftBy}
 use Rattle.stream.specs.Stages.{lineLength, Answered, aheadBy, Midway, Through}
 use Rattle.stream.proofs.Answering.{yielded-length}
@@ -105,12 +106,12 @@ begins output input s begun =
 
 module _ (whole : Fed) (before input : List ℕ) (s : Sheet) (begun : List ℕ) (taken written : ℕ) (output : List ℕ) (m : Midway whole before input s begun taken written output) where
   pub next-row :
-      (n : ℕ) (t : Turn) (after : HeldSheet) (entries : Entries) (output′ : List ℕ) → length begun ≤ 103 → 103 ≤ length before - written
+      (n : ℕ) (t : Turn) (after : Rates) (pool : List ℕ) (entries : Entries) (output′ : List ℕ) → length begun ≤ 103 → 103 ≤ length before - written
       → n ≡ lineLength (drop taken input) → n < length (drop taken input)
       → perform s (readRow (kept (begun ++ take n (drop taken input)))) ≡ t
-      → Answered t output written after entries output′
-      → Midway whole before input (sheetOf after entries) [] (taken + (n + 1)) (written + 103) output′
-  next-row n t after entries output′ k h e l did a =
+      → Answered t output written after pool entries output′
+      → Midway whole before input (sheetIn after pool entries) [] (taken + (n + 1)) (written + 103) output′
+  next-row n t after pool entries output′ k h e l did a =
       let rest = drop taken input in
       let room = length before - written in
       let at = placed output written (yielded t) output′ (omega arith) (yielded-length t) (a .row) in

@@ -1,3 +1,3 @@
 pub mod Pieces
-pub mod HoweverCut
+pub mod Lent
 pub mod Stages

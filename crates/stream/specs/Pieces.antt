@@ -4,19 +4,12 @@ use mathlib.Core.Bool.{cond}
 use mathlib.Core.List.{List, [], _∷_, _++_}
 use lib.Dec.{eqb, ltb}
 use lib.ListN.{length, replicate, take, drop}
-use Rattle.rows.specs.Row.{newline, readRow}
-use Rattle.sheet.specs.Sheet.{Sheet, sheetOf, perform, yielded}
-use Rattle.oracle.specs.Ring.{Entries}
-use Rattle.stream.specs.declared.feed.Fed.{Fed as HeldFed}
-use Rattle.stream.specs.declared.feed.Ended.{Ended as HeldEnded}
+use Rattle.rows.specs.Row.{newline, rowBytes, readRow}
+use Rattle.sheet.specs.Sheet.{Sheet, perform, yielded}
 
--- a row that is written has 102 bytes and a newline
-abbrev pub rowBytes : ℕ
-rowBytes = 103
-
--- of a row that is begun no more than 103 bytes are kept: so many make it unreadable, whatever they are and whatever follows
+-- of a row that is begun no more bytes are kept than a row that is written has: so many make it unreadable, whatever they are and whatever follows
 abbrev pub kept : List ℕ → List ℕ
-kept bytes = take 103 bytes
+kept bytes = take rowBytes bytes
 
 -- what a piece did: the sheet after it, the row that it has begun and not ended, how many of its bytes were taken, the rows written
 pub record Fed : Type 0 where
@@ -52,9 +45,9 @@ finish s [] = record { sheet = s; written = [] }
 finish s (b ∷ bs) = let t = perform s (readRow (b ∷ bs)) in record { sheet = t .sheet; written = yielded t }
 
 -- ---- the lent memory
--- a row that is begun, in the 103 bytes that hold it: zeros after it
+-- a row that is begun, in the bytes that hold it: zeros after it
 unfoldable pub holding : List ℕ → List ℕ
-holding begun = begun ++ replicate (103 - length begun) 0
+holding begun = begun ++ replicate (rowBytes - length begun) 0
 
 -- rows at the beginning of the output, what stood there after them
 unfoldable pub over : List ℕ → List ℕ → List ℕ
@@ -79,17 +72,6 @@ leftBy output f = record {
   output = over output (f .written);
 }
 
--- what the code answers, with what is lent beside it
-abbrev pub leftOf : HeldFed → Entries → List ℕ → List ℕ → Left
-leftOf f entries held output = record {
-  sheet = sheetOf (f .going .sheet) entries;
-  begun = f .going .begun;
-  held = held;
-  taken = f .taken;
-  written = f .written;
-  output = output;
-}
-
 -- all that the end of the input leaves
 pub record LeftAtEnd : Type 0 where
   pub sheet : Sheet
@@ -98,6 +80,3 @@ pub record LeftAtEnd : Type 0 where
 
 unfoldable pub leftAtEnd : List ℕ → Finished → LeftAtEnd
 leftAtEnd output f = record { sheet = f .sheet; written = length (f .written); output = over output (f .written) }
-
-abbrev pub endOf : HeldEnded → Entries → List ℕ → LeftAtEnd
-endOf e entries output = record { sheet = sheetOf (e .sheet) entries; written = e .written; output = output }

@@ -7,8 +7,10 @@ use lib.Dec.{eqb}
 use lib.ListN.{length, take, drop}
 use Rattle.rows.specs.Row.{newline, withRow}
 use Rattle.oracle.specs.Ring.{Entries}
-use Rattle.sheet.specs.declared.turn.Sheet.{Sheet as HeldSheet}
-use Rattle.sheet.specs.Sheet.{Sheet, sheetOf, Turn, yielded}
+use Rattle.rates.specs.declared.Rates.{Rates}
+use Rattle.memory.specs.Steps.{IsRecord}
+use Rattle.sheet.specs.Sheet.{Sheet, Turn, yielded}
+use Rattle.sheet.specs.Lent.{sheetIn}
 use Rattle.stream.specs.Pieces.{Fed, feed}
 
 -- how many bytes stand before the first newline, or all where there is none
@@ -16,9 +18,10 @@ unfoldable pub lineLength : List ℕ → ℕ
 lineLength [] = zero
 lineLength (byte ∷ bytes) = cond (eqb byte newline) zero (suc (lineLength bytes))
 
--- a row that is answered at a place of the output
-pub record Answered (t : Turn) (output : List ℕ) (at : ℕ) (s : HeldSheet) (entries : Entries) (written : List ℕ) : Type 0 where
-  pub sheet : sheetOf s entries ≡ t .sheet
+-- a row that is answered at a place of the output: the sheet that the memory then holds, which is still a pool's, and the row written
+pub record Answered (t : Turn) (output : List ℕ) (at : ℕ) (rates : Rates) (pool : List ℕ) (entries : Entries) (written : List ℕ) : Type 0 where
+  pub sheet : sheetIn rates pool entries ≡ t .sheet
+  pub is-record : IsRecord pool
   pub row : written ≡ withRow output at (yielded t)
 
 -- so many bytes were taken and rows written; what the other bytes do

@@ -1,58 +1,66 @@
 // One piece of a day sheet's input (document 01, 'The day sheet').
-use opening::zero;
+use memory::record::record_number;
+use oracle::RING_WORDS;
 use rates::Rates;
+use refusal::ACCEPTED;
+use rows::row::LINE_BYTES;
 use rows::row::ROW_BYTES;
 use rows::row::read_row;
 use rows::row::write_row_at;
-use sheet::turn::Sheet;
 use sheet::turn::amounts_of;
-use sheet::turn::net_or_0;
 use sheet::turn::perform;
+use words::POOL_WORDS;
+use words::RECEIPT_WORDS;
+use words::holdings_of;
+use words::receipt_of;
 ghost use mathlib.Core.Path.{_≡_};
 ghost use mathlib.Core.List.{List, [], _++_};
 ghost use Prim.Native.Nat.{ℕ, _+_, _-_, _≤_, min};
 ghost use lib.Dec.{ltb};
 ghost use lib.ListN.{length, replicate, take, drop};
-ghost use Rattle.pool.specs.Opening.{zeroEntries};
-ghost use Rattle.rows.specs.Row.{readRow};
-ghost use Rattle.sheet.specs.Sheet.{sheetOf, emptySheet, perform};
-ghost use Rattle.stream.specs.Pieces.{kept, feed, finish, holding, leftBy, leftOf, leftAtEnd, endOf};
+ghost use Rattle.oracle.specs.Ring.{ringWords};
+ghost use Rattle.rows.specs.Row.{rowBytes, readRow};
+ghost use Rattle.words.specs.Words.{poolLength};
+ghost use Rattle.memory.specs.Steps.{IsRecord};
+ghost use Rattle.sheet.specs.Sheet.{emptySheet, perform};
+ghost use Rattle.sheet.specs.Lent.{sheetIn};
+ghost use Rattle.stream.specs.Pieces.{kept, holding};
 ghost use Rattle.stream.specs.Pieces.{Fed as FedPiece};
+ghost use Rattle.stream.specs.Lent.{fedMemory, fedOver, endMemory, endedOver};
 ghost use Rattle.stream.specs.Stages.{lineLength, Answered, Midway, Through};
 
-// The bytes of a row before its newline.
-const LINE_BYTES: usize = ROW_BYTES - 1;
-
-// The sheet between two pieces, and how many bytes are held of a row that is begun.
+// Between two pieces: the rates for the next opening, and how many bytes are held of a row that is begun.
 pub struct Going {
-    pub sheet: Sheet,
+    pub rates: Rates,
     pub begun: usize,
 }
 
-// The sheet after a piece, how many of its bytes were taken, and how many bytes were written.
+// After a piece: 0, how many of its bytes were taken, and how many bytes were written; or the number of a record that is no pool.
 pub struct Fed {
+    pub number: u64,
     pub going: Going,
     pub taken: usize,
     pub written: usize,
 }
 
-// The sheet after the end of the input, and how many bytes were written.
+// After the end of the input: 0, and how many bytes were written; or the number of a record that is no pool.
 pub struct Ended {
-    pub sheet: Sheet,
+    pub number: u64,
+    pub rates: Rates,
     pub written: usize,
 }
 
 // After the last whole row of a piece: a row is begun at `from`, and the piece is taken up to `end`.
 struct Rest {
-    sheet: Sheet,
+    rates: Rates,
     from: usize,
     end: usize,
     written: usize,
 }
 
-// The empty sheet, with no row begun.
+// The empty sheet, with no row begun: record and ring are zeros.
 pub fn start() -> Going
-    ensures { λ r. ⌜ (sheetOf (r .sheet) zeroEntries ≡ emptySheet) × (r .begun ≡ 0) ⌝ }
+    ensures { λ r. ⌜ (sheetIn (r .rates) (replicate poolLength 0) (replicate ringWords 0) ≡ emptySheet) × (r .begun ≡ 0) ⌝ }
 {
     let rates = Rates {
         trade: 0,
@@ -61,9 +69,7 @@ pub fn start() -> Going
         creator: 0,
         share: 0,
     };
-    let pool = zero();
-    let sheet = Sheet { rates, pool };
-    Going { sheet, begun: 0 }
+    Going { rates, begun: 0 }
 }
 
 // Whether a newline is among these bytes. The loop never ends early, so that the compiler takes many bytes at a time.
@@ -116,7 +122,7 @@ fn least(a: usize, b: usize) -> usize
 
 // Puts bytes after those that are begun, as far as they go.
 fn append(held: &mut [u8], begun: usize, part: &[u8]) -> usize
-    requires { ⌜ (length (now held) ≡ 103) × (begun ≤ 103) ⌝ }
+    requires { ⌜ (length (now held) ≡ rowBytes) × (begun ≤ rowBytes) ⌝ }
     ensures { λ r. ⌜ (r ≡ length (kept (take begun (now (held .entry)) ++ now (part .entry)))) × (take r (now (held .exit)) ≡ kept (take begun (now (held .entry)) ++ now (part .entry))) ⌝ }
 {
     let n = least(part.len(), ROW_BYTES - begun);
@@ -138,9 +144,9 @@ fn clear(part: &mut [u8])
     }
 }
 
-// A row that is begun, with more of its bytes: no more than 103 are kept.
+// A row that is begun, with more of its bytes: no more than a row's are kept.
 fn carry(held: &mut [u8], begun: usize, part: &[u8]) -> usize
-    requires { ⌜ length (now held) ≡ 103 ⌝ }
+    requires { ⌜ length (now held) ≡ rowBytes ⌝ }
     ensures { λ r. ⌜ (r ≡ length (kept (take begun (now (held .entry)) ++ now (part .entry)))) × (now (held .exit) ≡ holding (kept (take begun (now (held .entry)) ++ now (part .entry)))) ⌝ }
 {
     let n = append(held, least(begun, ROW_BYTES), part);
@@ -150,52 +156,51 @@ fn carry(held: &mut [u8], begun: usize, part: &[u8]) -> usize
 
 // Does what the row between two places of a text says, and writes its answer at a place of the output.
 fn answer(
-    sheet: Sheet,
-    entries: &mut [u64; 500],
+    rates: Rates,
+    pool: &mut [u64; POOL_WORDS],
+    ring: &mut [u64; RING_WORDS],
     text: &[u8],
     from: usize,
     end: usize,
     output: &mut [u8],
     at: usize,
-) -> Sheet
-    requires { ⌜ (from ≤ end) × (end ≤ length (now text)) ⌝ }
-    ensures { λ r. ⌜ Answered (perform (sheetOf sheet (now (entries .entry))) (readRow (take (end - from) (drop from (now (text .entry)))))) (now (output .entry)) at r (now (entries .exit)) (now (output .exit)) ⌝ }
+) -> Rates
+    requires { ⌜ IsRecord (now pool) × (from ≤ end) × (end ≤ length (now text)) ⌝ }
+    ensures { λ r. ⌜ Answered (perform (sheetIn rates (now (pool .entry)) (now (ring .entry))) (readRow (take (end - from) (drop from (now (text .entry)))))) (now (output .entry)) at r (now (pool .exit)) (now (ring .exit)) (now (output .exit)) ⌝ }
 {
-    let turn = perform(sheet, entries, read_row(&text[from..end]));
-    let after = turn.sheet;
-    let receipt = turn.receipt;
-    let amounts = amounts_of(receipt);
-    let pool = after.pool;
-    let fees = pool.fees;
-    let net0 = net_or_0(pool.vault0, fees.protocol0, fees.fund0, fees.creator0);
-    let net1 = net_or_0(pool.vault1, fees.protocol1, fees.fund1, fees.creator1);
+    let mut receipt = [0; RECEIPT_WORDS];
+    let after = perform(rates, pool, ring, &mut receipt, read_row(&text[from..end]));
+    let shown = receipt_of(receipt);
+    let amounts = amounts_of(shown);
+    let held = holdings_of(pool);
     write_row_at(
         output,
         at,
-        receipt.number,
+        shown.number,
         amounts.first,
         amounts.second,
-        net0,
-        net1,
-        pool.supply,
+        held.net0,
+        held.net1,
+        held.supply,
     );
     after
 }
 
 // The whole rows of a piece from a place on, as long as there is room for their answers.
 fn whole_rows(
-    sheet: Sheet,
-    entries: &mut [u64; 500],
+    rates: Rates,
+    pool: &mut [u64; POOL_WORDS],
+    ring: &mut [u64; RING_WORDS],
     input: &[u8],
     from: usize,
     output: &mut [u8],
     at: usize,
 ) -> Rest
-    requires { ⌜ (from ≤ length (now input)) × (at ≤ length (now output)) ⌝ }
-    ensures { λ r. ⌜ ((whole : FedPiece) (before : List ℕ) → Midway whole before (now (input .entry)) (sheetOf sheet (now (entries .entry))) [] from at (now (output .entry)) → Through whole before (sheetOf (r .sheet) (now (entries .exit))) (kept (take (r .end - r .from) (drop (r .from) (now (input .entry))))) (r .end) (r .written) (now (output .exit))) ⌝ }
-    ensures { λ r. ⌜ (r .from ≤ r .end) × (r .end ≤ length (now (input .entry))) ⌝ }
+    requires { ⌜ IsRecord (now pool) × (from ≤ length (now input)) × (at ≤ length (now output)) ⌝ }
+    ensures { λ r. ⌜ ((whole : FedPiece) (before : List ℕ) → Midway whole before (now (input .entry)) (sheetIn rates (now (pool .entry)) (now (ring .entry))) [] from at (now (output .entry)) → Through whole before (sheetIn (r .rates) (now (pool .exit)) (now (ring .exit))) (kept (take (r .end - r .from) (drop (r .from) (now (input .entry))))) (r .end) (r .written) (now (output .exit))) ⌝ }
+    ensures { λ r. ⌜ (r .from ≤ r .end) × (r .end ≤ length (now (input .entry))) × IsRecord (now (pool .exit)) ⌝ }
 {
-    let mut after = sheet;
+    let mut after = rates;
     let mut next = from;
     let mut written = at;
     while output.len() - written >= ROW_BYTES {
@@ -203,29 +208,30 @@ fn whole_rows(
         let n = line_length(bytes);
         if n == bytes.len() {
             return Rest {
-                sheet: after,
+                rates: after,
                 from: next,
                 end: input.len(),
                 written,
             };
         }
-        after = answer(after, entries, input, next, next + n, output, written);
+        after = answer(after, pool, ring, input, next, next + n, output, written);
         next += n + 1;
         written += ROW_BYTES;
     }
     Rest {
-        sheet: after,
+        rates: after,
         from: next,
         end: next,
         written,
     }
 }
 
-fn after_piece(sheet: Sheet, begun: usize, taken: usize, written: usize) -> Fed
-    ensures { λ r. ⌜ (r .going .sheet ≡ sheet) × (r .going .begun ≡ begun) × (r .taken ≡ taken) × (r .written ≡ written) ⌝ }
+fn after_piece(rates: Rates, begun: usize, taken: usize, written: usize) -> Fed
+    ensures { λ r. ⌜ (r .number ≡ 0) × (r .going .rates ≡ rates) × (r .going .begun ≡ begun) × (r .taken ≡ taken) × (r .written ≡ written) ⌝ }
 {
     Fed {
-        going: Going { sheet, begun },
+        number: ACCEPTED,
+        going: Going { rates, begun },
         taken,
         written,
     }
@@ -234,27 +240,38 @@ fn after_piece(sheet: Sheet, begun: usize, taken: usize, written: usize) -> Fed
 // A piece of the input: what its rows do, as long as there is room for another answer, and the row that it has begun.
 pub fn feed(
     going: Going,
-    entries: &mut [u64; 500],
-    held: &mut [u8; 103],
+    pool: &mut [u64; POOL_WORDS],
+    ring: &mut [u64; RING_WORDS],
+    held: &mut [u8; ROW_BYTES],
     input: &[u8],
     output: &mut [u8],
 ) -> Fed
-    ensures { λ r. ⌜ leftOf r (now (entries .exit)) (now (held .exit)) (now (output .exit)) ≡ leftBy (now (output .entry)) (feed (length (now (output .entry))) (sheetOf (going .sheet) (now (entries .entry))) (take (going .begun) (now (held .entry))) (now (input .entry))) ⌝ }
+    ensures { λ r. ⌜ fedMemory r (now (pool .exit)) (now (ring .exit)) (now (held .exit)) (now (output .exit)) ≡ fedOver (going .rates) (going .begun) (now (pool .entry)) (now (ring .entry)) (now (held .entry)) (now (input .entry)) (now (output .entry)) ⌝ }
 {
-    let sheet = going.sheet;
+    let w = *pool;
+    let unreadable = record_number(w);
+    if unreadable != ACCEPTED {
+        return Fed {
+            number: unreadable,
+            going,
+            taken: 0,
+            written: 0,
+        };
+    }
+    let rates = going.rates;
     let begun = going.begun;
     if output.len() < ROW_BYTES {
         let kept = carry(held, begun, &input[..0]);
-        return after_piece(sheet, kept, 0, 0);
+        return after_piece(rates, kept, 0, 0);
     }
     let n = line_length(input);
     let kept = carry(held, begun, &input[..n]);
     if n == input.len() {
-        return after_piece(sheet, kept, n, 0);
+        return after_piece(rates, kept, n, 0);
     }
-    let first = answer(sheet, entries, held, 0, kept, output, 0);
-    let rest = whole_rows(first, entries, input, n + 1, output, ROW_BYTES);
-    let after = rest.sheet;
+    let first = answer(rates, pool, ring, held, 0, kept, output, 0);
+    let rest = whole_rows(first, pool, ring, input, n + 1, output, ROW_BYTES);
+    let after = rest.rates;
     let from = rest.from;
     let end = rest.end;
     let cut = carry(held, 0, &input[from..end]);
@@ -264,20 +281,35 @@ pub fn feed(
 // The end of the input: a row that is begun is the last row.
 pub fn finish(
     going: Going,
-    entries: &mut [u64; 500],
-    held: &[u8; 103],
-    output: &mut [u8; 103],
+    pool: &mut [u64; POOL_WORDS],
+    ring: &mut [u64; RING_WORDS],
+    held: &[u8; ROW_BYTES],
+    output: &mut [u8; ROW_BYTES],
 ) -> Ended
-    ensures { λ r. ⌜ endOf r (now (entries .exit)) (now (output .exit)) ≡ leftAtEnd (now (output .entry)) (finish (sheetOf (going .sheet) (now (entries .entry))) (take (going .begun) (now (held .entry)))) ⌝ }
+    ensures { λ r. ⌜ endMemory r (now (pool .exit)) (now (ring .exit)) (now (output .exit)) ≡ endedOver (going .rates) (going .begun) (now (pool .entry)) (now (ring .entry)) (now (held .entry)) (now (output .entry)) ⌝ }
 {
-    let sheet = going.sheet;
+    let w = *pool;
+    let unreadable = record_number(w);
+    let rates = going.rates;
+    if unreadable != ACCEPTED {
+        return Ended {
+            number: unreadable,
+            rates,
+            written: 0,
+        };
+    }
     let begun = least(going.begun, ROW_BYTES);
     if begun == 0 {
-        return Ended { sheet, written: 0 };
+        return Ended {
+            number: ACCEPTED,
+            rates,
+            written: 0,
+        };
     }
-    let after = answer(sheet, entries, held, 0, begun, output, 0);
+    let after = answer(rates, pool, ring, held, 0, begun, output, 0);
     Ended {
-        sheet: after,
+        number: ACCEPTED,
+        rates: after,
         written: ROW_BYTES,
     }
 }

@@ -1,13 +1,45 @@
 // The pool's record with its ring's head, and its receipt, as plain numbers, in a fixed order.
+use accounting::Books;
 use accounting::FeeCounters;
+use opening::Opening;
 use oracle::Ring;
 use pool::state::Pool;
 use rates::Rates;
+use rates::Terms;
+use receipt::Paid;
 use receipt::Receipt;
+use receipt::Shared;
+use receipt::Trade;
 ghost use mathlib.Core.Path.{_≡_};
 ghost use mathlib.Core.Bool.{cond};
+ghost use Prim.Native.Nat.{_+_, _-_};
 ghost use lib.ListN.{drop};
-ghost use Rattle.words.specs.Words.{poolWords, receiptWords, ratesOf, poolOf, receiptOf, beginsWith};
+ghost use Rattle.words.specs.Words.{poolWords, receiptWords, ratesOf, openingOf, poolOf, receiptOf, holdingsOf, shareOf, beginsWith};
+
+// How many numbers a pool's record has.
+pub const POOL_WORDS: usize = 21;
+
+// How many numbers a receipt has.
+pub const RECEIPT_WORDS: usize = 16;
+
+// How many arguments an opening has.
+pub const OPENING_WORDS: usize = 10;
+
+// The place in the record that says whether creator fees are enabled.
+pub const ENABLED_AT: usize = 12;
+
+// The place of the share rate.
+const SHARE_AT: usize = 17;
+
+// The place that says whether the ring is used.
+pub const USED_AT: usize = 18;
+
+// The nets, 0 where the counters are above the vault, and the supply.
+pub struct Holdings {
+    pub net0: u64,
+    pub net1: u64,
+    pub supply: u64,
+}
 
 // A flag as a number.
 fn word(flag: bool) -> u64
@@ -16,58 +48,60 @@ fn word(flag: bool) -> u64
     if flag { 1 } else { 0 }
 }
 
-// The pool as 21 numbers.
-pub fn pool_words(p: Pool) -> [u64; 21]
+// The pool as plain numbers.
+pub fn pool_words(p: Pool) -> [u64; POOL_WORDS]
     ensures { λ r. ⌜ r ≡ poolWords p ⌝ }
 {
-    let enabled = word(p.enabled);
+    let enabled = word(p.terms.enabled);
     let used = word(p.ring.used);
+    let books = p.books;
+    let terms = p.terms;
     [
-        p.vault0,
-        p.vault1,
-        p.fees.protocol0,
-        p.fees.protocol1,
-        p.fees.fund0,
-        p.fees.fund1,
-        p.fees.creator0,
-        p.fees.creator1,
-        p.supply,
+        books.vault0,
+        books.vault1,
+        books.fees.protocol0,
+        books.fees.protocol1,
+        books.fees.fund0,
+        books.fees.fund1,
+        books.fees.creator0,
+        books.fees.creator1,
+        books.supply,
         p.status,
-        p.open_time,
-        p.fee_model,
+        terms.open_time,
+        terms.fee_model,
         enabled,
-        p.rates.trade,
-        p.rates.protocol,
-        p.rates.fund,
-        p.rates.creator,
-        p.rates.share,
+        terms.rates.trade,
+        terms.rates.protocol,
+        terms.rates.fund,
+        terms.rates.creator,
+        terms.rates.share,
         used,
         p.ring.index,
         p.ring.mark,
     ]
 }
 
-// The receipt as 16 numbers.
-pub fn receipt_words(r: Receipt) -> [u64; 16]
+// The receipt as plain numbers.
+pub fn receipt_words(r: Receipt) -> [u64; RECEIPT_WORDS]
     ensures { λ w. ⌜ w ≡ receiptWords r ⌝ }
 {
     [
         r.number,
         r.kind,
-        r.direction,
-        r.clock,
-        r.in0,
-        r.in1,
-        r.out0,
-        r.out1,
-        r.lp,
-        r.trade_fee,
-        r.protocol_fee,
-        r.fund_fee,
-        r.creator_fee,
-        r.creator_fee_token,
-        r.shared0,
-        r.shared1,
+        r.trade.direction,
+        r.trade.clock,
+        r.paid.in0,
+        r.paid.in1,
+        r.paid.out0,
+        r.paid.out1,
+        r.paid.lp,
+        r.trade.trade_fee,
+        r.trade.protocol_fee,
+        r.trade.fund_fee,
+        r.trade.creator_fee,
+        r.trade.creator_fee_token,
+        r.shared.shared0,
+        r.shared.shared1,
     ]
 }
 
@@ -84,63 +118,134 @@ pub fn rates_of(w: [u64; 5]) -> Rates
     }
 }
 
-// The pool of 21 numbers. A flag is set where its number is 1.
-pub fn pool_of(w: [u64; 21]) -> Pool
+// Ten numbers as the arguments of an opening, the rates last.
+pub fn opening_of(w: [u64; OPENING_WORDS]) -> Opening
+    ensures { λ r. ⌜ r ≡ openingOf w ⌝ }
+{
+    Opening {
+        amount0: w[0],
+        amount1: w[1],
+        model: w[2],
+        enabled: w[3],
+        open_time: w[4],
+        rates: Rates {
+            trade: w[5],
+            protocol: w[6],
+            fund: w[7],
+            creator: w[8],
+            share: w[9],
+        },
+    }
+}
+
+// The pool of such numbers. A flag is set where its number is 1.
+pub fn pool_of(w: [u64; POOL_WORDS]) -> Pool
     ensures { λ r. ⌜ r ≡ poolOf w ⌝ }
 {
     Pool {
-        vault0: w[0],
-        vault1: w[1],
-        fees: FeeCounters {
-            protocol0: w[2],
-            protocol1: w[3],
-            fund0: w[4],
-            fund1: w[5],
-            creator0: w[6],
-            creator1: w[7],
+        books: Books {
+            vault0: w[0],
+            vault1: w[1],
+            fees: FeeCounters {
+                protocol0: w[2],
+                protocol1: w[3],
+                fund0: w[4],
+                fund1: w[5],
+                creator0: w[6],
+                creator1: w[7],
+            },
+            supply: w[8],
         },
-        supply: w[8],
+        terms: Terms {
+            rates: Rates {
+                trade: w[13],
+                protocol: w[14],
+                fund: w[15],
+                creator: w[16],
+                share: w[SHARE_AT],
+            },
+            fee_model: w[11],
+            open_time: w[10],
+            enabled: w[ENABLED_AT] == 1,
+        },
         status: w[9],
-        open_time: w[10],
-        fee_model: w[11],
-        enabled: w[12] == 1,
-        rates: Rates {
-            trade: w[13],
-            protocol: w[14],
-            fund: w[15],
-            creator: w[16],
-            share: w[17],
-        },
         ring: Ring {
-            used: w[18] == 1,
+            used: w[USED_AT] == 1,
             index: w[19],
             mark: w[20],
         },
     }
 }
 
-// The receipt of 16 numbers.
-pub fn receipt_of(w: [u64; 16]) -> Receipt
+// The receipt of such numbers.
+pub fn receipt_of(w: [u64; RECEIPT_WORDS]) -> Receipt
     ensures { λ r. ⌜ r ≡ receiptOf w ⌝ }
 {
     Receipt {
         number: w[0],
         kind: w[1],
-        direction: w[2],
-        clock: w[3],
-        in0: w[4],
-        in1: w[5],
-        out0: w[6],
-        out1: w[7],
-        lp: w[8],
-        trade_fee: w[9],
-        protocol_fee: w[10],
-        fund_fee: w[11],
-        creator_fee: w[12],
-        creator_fee_token: w[13],
-        shared0: w[14],
-        shared1: w[15],
+        paid: Paid {
+            in0: w[4],
+            in1: w[5],
+            out0: w[6],
+            out1: w[7],
+            lp: w[8],
+        },
+        trade: Trade {
+            direction: w[2],
+            clock: w[3],
+            trade_fee: w[9],
+            protocol_fee: w[10],
+            fund_fee: w[11],
+            creator_fee: w[12],
+            creator_fee_token: w[13],
+        },
+        shared: Shared {
+            shared0: w[14],
+            shared1: w[15],
+        },
     }
+}
+
+// A vault less its three counters; 0 where they are above it. Each is taken off by itself, so that no sum wraps.
+fn net_or_0(vault: u64, protocol: u64, fund: u64, creator: u64) -> u64
+    ensures { λ r. ⌜ r ≡ vault - (protocol + fund + creator) ⌝ }
+{
+    if protocol > vault {
+        return 0;
+    }
+    let without_protocol = vault - protocol;
+    if fund > without_protocol {
+        return 0;
+    }
+    let without_fund = without_protocol - fund;
+    if creator > without_fund {
+        return 0;
+    }
+    without_fund - creator
+}
+
+// What a row of the day sheet shows of a pool: the nets and the supply.
+pub fn holdings_of(w: &[u64; POOL_WORDS]) -> Holdings
+    ensures { λ r. ⌜ r ≡ holdingsOf (poolOf (now (w .entry))) ⌝ }
+{
+    let p = pool_of(*w);
+    let books = p.books;
+    let fees = books.fees;
+    let net0 = net_or_0(books.vault0, fees.protocol0, fees.fund0, fees.creator0);
+    let net1 = net_or_0(books.vault1, fees.protocol1, fees.fund1, fees.creator1);
+    Holdings {
+        net0,
+        net1,
+        supply: books.supply,
+    }
+}
+
+// The rate at which a row of the day sheet settles.
+pub fn share_of(w: &[u64; POOL_WORDS]) -> u64
+    ensures { λ r. ⌜ r ≡ shareOf (poolOf (now (w .entry))) ⌝ }
+{
+    w[SHARE_AT]
 }
 
 // Whether these numbers stand in a row from a place on.

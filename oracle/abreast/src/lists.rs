@@ -54,7 +54,7 @@ impl Lists {
 
     fn next_call(&mut self, case: &Case, claims: &mut Claims, tally: &mut Tally) {
         let after = asked(&self.state, case, &mut self.port, tally);
-        // An accepted call's receipt begins with 0, a refused call's is left as it was filled.
+        // An accepted call's receipt begins with 0, a refused call's with its number.
         if self.port.receipt[0] == 0 {
             claims.afresh.count(&self.port.receipt);
         }

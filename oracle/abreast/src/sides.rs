@@ -7,7 +7,7 @@ use port::Port;
 use record::{call_answer, Call, Case, State};
 use runner::Outcome;
 
-/// Fills what a refused call may not write.
+/// Fills what the call has to write, or may not.
 pub const FILL: u64 = 0xA5A5_A5A5_A5A5_A5A5;
 
 /// What went wrong, and with which case.
@@ -27,12 +27,12 @@ pub fn asked(before: &State, case: &Case, port: &mut Port, tally: &mut Tally) ->
     document
 }
 
-/// The port gives document 01's whole answer, and of a refused call writes nothing.
+/// The port gives document 01's whole answer, and of a refused call writes only the receipt.
 fn port_side(case: &Case, call: &Call, document: &After, port: &mut Port, tally: &mut Tally) {
     port.receipt = [FILL; 16];
     let expected = match document.number {
         0 => Port::with(&document.state, &document.receipt),
-        _ => port.clone(),
+        number => port.refused(number),
     };
     let number = port.call(call);
     if number != document.number || *port != expected {

@@ -75,6 +75,9 @@ fn report(tally: Tally) -> bool {
     for form in record::FORMS {
         let of_kind = tally.answers.range((form.kind, 0)..(form.kind + 1, 0));
         let counts: Vec<String> = of_kind.map(|((_, number), count)| format!("{number}: {count}")).collect();
+        if counts.is_empty() {
+            continue;
+        }
         println!("  {:2} {:32} {}", form.kind, form.name, counts.join(", "));
     }
     for (side, title) in [

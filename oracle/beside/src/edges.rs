@@ -36,7 +36,7 @@ pub fn cases() -> Vec<Case> {
 }
 
 fn edges() -> Vec<Edge> {
-    [calls(), creator_fees(), openings(), rate_limits(), ring()].into_iter().flatten().collect()
+    [worked_day(), calls(), creator_fees(), openings(), rate_limits(), ring()].into_iter().flatten().collect()
 }
 
 fn opening(amounts: [u64; 2], model: u64, enabled: u64, rates: [u64; 5]) -> Case {
@@ -50,6 +50,24 @@ fn opened(model: u64, enabled: u64, rates: [u64; 5]) -> State {
 
 fn edge(says: &'static str, case: Case, number: u64, columns: &[(&'static str, u64)]) -> Edge {
     Edge { says, case, number, columns: columns.to_vec() }
+}
+
+/// The worked day, and its edges with limits that a caller would give.
+fn worked_day() -> Vec<Edge> {
+    let pool = opened(0, 0, RATES);
+    let call = |kind, arguments: &[u64]| Case::of_call(&pool, kind, arguments);
+    let worked = opening([1_000_000, 4_000_000], 0, 0, RATES);
+    let paid = [("in 0", 10_000), ("out 1", 39_505)];
+    vec![
+        edge("opening 1,000,000 by 4,000,000", worked, 0, &[("supply", 2_000_000)]),
+        edge("10,000 in gives 39,505", call(2, &[0, 10_000, 1, 100]), 0, &paid),
+        edge("at most 10,000 in for 39,505", call(3, &[0, 39_505, 10_000, 100]), 0, &paid),
+        edge("at most 10,000 in for 4,000,000 is 11", call(3, &[0, 4_000_000, 10_000, 100]), 11, &[]),
+        edge("2 in pays a fee of 1", call(2, &[0, 2, 0, 100]), 0, &[("trade fee", 1), ("out 1", 3)]),
+        edge("at most 100 for LP 1 is 4", call(4, &[1, 100, 100]), 4, &[]),
+        edge("at most 100 for LP 3", call(4, &[3, 100, 100]), 0, &[("in 0", 2), ("in 1", 6)]),
+        edge("3 of 2,000,000 LP", call(5, &[3, 2_000_000, 0, 0]), 0, &[("out 0", 1), ("out 1", 6)]),
+    ]
 }
 
 fn calls() -> Vec<Edge> {
@@ -83,7 +101,7 @@ fn calls() -> Vec<Edge> {
 }
 
 fn creator_fees() -> Vec<Edge> {
-    let swap = |model, enabled, rates| Case::of_call(&opened(model, enabled, rates), 2, &[0, 10_000, 0, 100]);
+    let swap = |model, enabled, rates| Case::of_call(&opened(model, enabled, rates), 2, &[0, 10_000, 1, 100]);
     vec![
         edge(
             "enabled creator rate 1,000: 10,000 in pays creator 10, trade 25",
@@ -118,6 +136,18 @@ fn openings() -> Vec<Edge> {
             &[("supply", 2_000_000)],
         ),
         edge(
+            "opening at trade 999,999 passes",
+            opening([1_000_000, 4_000_000], 0, 0, [999_999, 120_000, 40_000, 0, 0]),
+            0,
+            &[("supply", 2_000_000)],
+        ),
+        edge(
+            "opening at trade 999,999 + creator 1 is 3",
+            opening([1_000_000, 4_000_000], 0, 0, [999_999, 120_000, 40_000, 1, 0]),
+            3,
+            &[],
+        ),
+        edge(
             "opening at 1,000,000 is 3",
             opening([1_000_000, 4_000_000], 0, 0, [999_000, 0, 0, 1000, 0]),
             3,
@@ -148,7 +178,7 @@ fn ring() -> Vec<Edge> {
     let pool = opened(0, 0, RATES);
     let first = Call::from_words(2, &[0, 10_000, 0, 100]).expect("a swap takes four words");
     let used = model::run(&pool, &first).state;
-    let swap = |clock| Case::of_call(&used, 2, &[0, 10_000, 0, clock]);
+    let swap = |clock| Case::of_call(&used, 2, &[0, 10_000, 1, clock]);
     let first_case = Case::of_call(&pool, 2, &[0, 10_000, 0, 100]);
     let price_0 = 3_960_495 * (1 << 32) / 1_009_996;
     vec![

@@ -92,13 +92,9 @@ pub fn all() -> bool {
     held.iter().all(|held| *held)
 }
 
-/// The last call of each list as a case, for the sample.
+/// Each opening and each call of the lists as a case, for the sample.
 pub fn cases() -> Vec<Case> {
-    let last = |late: &Late| {
-        let (state, last) = late.before_last(&late.calls());
-        Case::of_call(&state, last[0], &last[1..])
-    };
-    LISTS.iter().map(last).collect()
+    LISTS.iter().flat_map(Late::cases).collect()
 }
 
 type Calls = Vec<Vec<u64>>;
@@ -108,8 +104,18 @@ impl Late {
         self.calls.iter().map(|call| call.to_vec()).collect()
     }
 
+    fn cases(&self) -> Vec<Case> {
+        let calls = self.calls();
+        let mut cases = vec![Case { kind: 1, columns: self.opening.to_vec() }];
+        for count in 1..=calls.len() {
+            let (state, last) = self.before_last(&calls[..count]);
+            cases.push(Case::of_call(&state, last[0], &last[1..]));
+        }
+        cases
+    }
+
     /// The state before the last call, and that call.
-    fn before_last(&self, calls: &Calls) -> (State, Vec<u64>) {
+    fn before_last(&self, calls: &[Vec<u64>]) -> (State, Vec<u64>) {
         let (last, earlier) = calls.split_last().expect("a list holds a call");
         let opening = Call::from_words(1, &self.opening).expect("an opening takes ten words");
         let mut after = model::run(&model::empty(), &opening);

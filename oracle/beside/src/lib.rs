@@ -1,6 +1,7 @@
 //! The original beside document 01: cases without end, what the two say to them, and how that is
 //! classed.
 
+pub mod bounds;
 pub mod compare;
 pub mod differences;
 pub mod driver;
@@ -11,5 +12,6 @@ pub mod page;
 pub mod random;
 mod reasons;
 pub mod sample;
+pub mod sheet;
 mod shrink;
 pub mod verdict;

@@ -1,19 +1,21 @@
 //! The original beside document 01: `oracle/run` says how to call it.
 
-use beside::{compare, differences, driver, edges, generator, late, sample};
+use beside::{bounds, compare, differences, driver, edges, generator, late, sample, sheet};
 use std::io::{self, BufWriter, Write};
 use std::process::ExitCode;
 
-const USAGE: &str = "edges | driver | generate SEED COUNT | generate small | compare SEED COUNT | \
-                     compare small | late | differences | sample FOLDER";
+const USAGE: &str = "edges | bounds | driver | generate SEED COUNT | generate small | compare SEED COUNT | \
+                     compare small | late | differences | sheet | sample FOLDER";
 
 fn main() -> ExitCode {
     let words: Vec<String> = std::env::args().skip(1).collect();
     let words: Vec<&str> = words.iter().map(String::as_str).collect();
     match words[..] {
         ["edges"] => passed(edges::all()),
+        ["bounds"] => passed(bounds::all()),
         ["differences"] => passed(differences::all()),
         ["late"] => passed(late::all()),
+        ["sheet"] => ended(sheet::answer()),
         ["driver"] => ended(driver::drive()),
         ["sample", folder] => ended(sample::write(folder.as_ref())),
         ["generate", "small"] => ended(write_cases(generator::small::cases())),

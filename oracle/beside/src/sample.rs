@@ -1,11 +1,13 @@
 //! The fixed sample: cases of every kind, every refusal and every class of difference, with
 //! the answers that a replay must give. The same seed writes the same bytes.
 
+use crate::generator::alone::ring_at_nets;
 use crate::generator::{small, Generator};
+use crate::random::Random;
 use crate::shrink::shrunk;
 use crate::verdict::{verdict, Side, Verdict};
-use crate::{differences, edges, late};
-use record::Case;
+use crate::{bounds, differences, edges, late};
+use record::{entry_at, Answer, Case, RING_ENTRIES};
 use std::collections::{BTreeMap, HashSet};
 use std::fs::File;
 use std::io::{self, BufWriter, Write};
@@ -13,25 +15,38 @@ use std::path::Path;
 
 const SEED: u64 = 1;
 const SCANNED: usize = 400_000;
+const RINGS_SCANNED: usize = 4_000;
 const SPREAD_OVER_SMALL: u64 = 700;
 
 /// Writes `cases.txt` into the folder and prints what it holds.
 pub fn write(folder: &Path) -> io::Result<()> {
     let mut sample = Sample::default();
-    let chosen = [edges::cases(), late::cases(), differences::cases()];
+    let chosen = [edges::cases(), late::cases(), bounds::cases(), differences::cases()];
     chosen.into_iter().flatten().for_each(|case| sample.keep(case));
     let step = small::count() / SPREAD_OVER_SMALL;
     small::cases().step_by(step as usize).for_each(|case| sample.keep(case));
     sample.fill_from(Generator::new(SEED).take(SCANNED));
+    let mut random = Random::new(SEED);
+    sample.fill_from((0..RINGS_SCANNED).map(|_| ring_at_nets(&mut random)));
     sample.save(&folder.join("cases.txt"))?;
     sample.print_contents();
     Ok(())
 }
 
+/// A case with its answer, as the replay's columns.
+struct Row {
+    kind: u64,
+    side: u64,
+    given: Vec<u64>,
+    answer: Vec<u64>,
+}
+
+const ALTERED: u64 = 3;
+
 #[derive(Default)]
 struct Sample {
     /// By kind, in the order in which they were kept.
-    rows: BTreeMap<u64, Vec<String>>,
+    rows: BTreeMap<u64, Vec<Row>>,
     seen: HashSet<String>,
     contents: BTreeMap<(u64, u64), u64>,
 }
@@ -48,9 +63,8 @@ impl Sample {
             Side::DocumentAlone => 2,
             Side::Unlisted => panic!("a difference of no class: {}", case.line()),
         };
-        if self.seen.insert(case.line()) {
-            let row = format!("{} {} {side}", case.line(), verdict.document.line());
-            self.rows.entry(case.kind).or_default().push(row);
+        if is_replayed(case.kind, verdict.document.number) && self.seen.insert(case.line()) {
+            self.rows.entry(case.kind).or_default().push(row(case, &verdict.document, side));
             *self.contents.entry((case.kind, verdict.document.number)).or_default() += 1;
         }
     }
@@ -73,22 +87,97 @@ impl Sample {
         }
     }
 
+    /// Behind the rows of each kind stand its altered ones.
     fn save(&self, path: &Path) -> io::Result<()> {
         let mut out = BufWriter::new(File::create(path)?);
-        for row in self.rows.values().flatten() {
-            writeln!(out, "{row}")?;
+        for rows in self.rows.values() {
+            for row in rows.iter().chain(&altered(rows)) {
+                writeln!(out, "{}", row.line())?;
+            }
         }
         out.flush()
     }
 
     fn print_contents(&self) {
-        for form in record::FORMS {
-            let of_kind = self.contents.range((form.kind, 0)..(form.kind + 1, 0));
+        for (kind, rows) in &self.rows {
+            let of_kind = self.contents.range((*kind, 0)..(kind + 1, 0));
             let counts: Vec<String> =
                 of_kind.map(|((_, number), count)| format!("{number}: {count}")).collect();
-            println!("{:2} {:32} {}", form.kind, form.name, counts.join(", "));
+            let name = record::form(*kind).map_or("", |form| form.name);
+            println!("{kind:2} {name:32} {}; altered: {}", counts.join(", "), altered(rows).len());
         }
         println!("{} rows", self.seen.len());
+    }
+}
+
+/// Whether the pool has a function that answers such a row by itself: directions and fee models out
+/// of range are the swaps' to refuse.
+fn is_replayed(kind: u64, number: u64) -> bool {
+    match kind {
+        17 | 23 | 30 | 35 => false,
+        33 | 34 => number != 5 && number != 9,
+        _ => true,
+    }
+}
+
+/// Calls but an opening have four arguments, pool and entry; fees and the curve three arguments; nets
+/// and prices a whole pool.
+fn row(case: &Case, document: &Answer, side: u64) -> Row {
+    let mut given = case.columns.clone();
+    let mut answer = vec![document.number];
+    answer.extend(&document.values);
+    match case.kind {
+        1 => answer.push(0),
+        2..=7 => {
+            let state = case.state();
+            let entry = entry_at(&state.ring, state.pool.head.index);
+            given = case.arguments().to_vec();
+            given.resize(4, 0);
+            given.extend(state.pool.words());
+            given.extend(entry);
+            // A call that is not lent the ring leaves its entry.
+            answer.truncate(37);
+            answer.extend(if case.kind < 4 { &document.values[36..] } else { &entry });
+        }
+        10..=21 => given.resize(3, 0),
+        31 | 32 => given.resize(21, 0),
+        _ => {}
+    }
+    Row { kind: case.kind, side, given, answer }
+}
+
+/// For each column of a kind's answer an accepted row and a refused one with that column altered: no
+/// replay may agree with one.
+fn altered(rows: &[Row]) -> Vec<Row> {
+    let in_ring = rows.iter().filter(|row| row.ring_index() < RING_ENTRIES as u64);
+    let (accepted, refused): (Vec<&Row>, Vec<&Row>) = in_ring.partition(|row| row.answer[0] == 0);
+    [accepted, refused].iter().flat_map(|rows| altered_columns(rows)).collect()
+}
+
+fn altered_columns(rows: &[&Row]) -> Vec<Row> {
+    let columns = 0..rows.first().map_or(0, |row| row.answer.len());
+    let with_altered = |column: usize| {
+        let Row { kind, given, answer, .. } = rows[column % rows.len()];
+        let mut answer = answer.clone();
+        answer[column] ^= 1;
+        Row { kind: *kind, side: ALTERED, given: given.clone(), answer }
+    };
+    columns.map(with_altered).collect()
+}
+
+impl Row {
+    /// The index that the answer gives, past which there is no entry to compare.
+    fn ring_index(&self) -> u64 {
+        match self.kind {
+            2..=7 => self.answer[35],
+            36 => self.answer[2],
+            _ => 0,
+        }
+    }
+
+    fn line(&self) -> String {
+        let words = [self.kind, self.side].into_iter().chain(self.given.iter().chain(&self.answer).copied());
+        words.map(|word| word.to_string()).collect::<Vec<_>>().join(" ")
     }
 }
 
@@ -99,7 +188,7 @@ fn quota(kind: u64, number: u64) -> u64 {
         (4 | 5, 0) => 120,
         (1 | 6 | 7, 0) => 50,
         (2..=5, _) => 16,
-        (30, 0) => 150,
+        (36, 0) => 150,
         (10.., 0) => 60,
         _ => 12,
     }

@@ -16,8 +16,8 @@ pub fn answer(case: &Case) -> Answer {
     match values(case.kind, &case.columns) {
         Ok(values) => Answer { number: 0, values },
         Err(number) => match case.kind {
-            // What is lent to these two comes back as it was.
-            30 => Answer { number, values: case.columns[..8].to_vec() },
+            // What is lent to these comes back as it was.
+            30 | 36 => Answer { number, values: case.columns[..8].to_vec() },
             33 => Answer { number, values: case.columns[..6].to_vec() },
             _ => Answer::refused(number, form.values.len()),
         },
@@ -28,7 +28,7 @@ fn values(kind: u64, words: &[u64]) -> Values {
     match kind {
         10..=17 => fee(kind, words),
         20..=23 => curve(kind, words),
-        30 => ring_update(words),
+        30 => ring_update(words, [from_halves(words[9], words[10]), from_halves(words[11], words[12])]),
         31 => calls::nets(&vaults(words)).map(Vec::from),
         32 => prices(words),
         33 => booking(words),
@@ -38,6 +38,10 @@ fn values(kind: u64, words: &[u64]) -> Values {
             Ok(vec![calls::swap::fee_on_input(words[0], words[1]).into()])
         }
         35 => refuse_if(words.contains(&0), EMPTY_SUPPLY).map(|()| vec![]),
+        36 => {
+            refuse_if(words[9..].contains(&0), PANIC)?;
+            ring_update(words, ring::prices([whole(words[9]), whole(words[10])]))
+        }
         _ => unreachable!("every kind has its form"),
     }
 }
@@ -89,11 +93,10 @@ fn ceil_div(words: &[u64]) -> Values {
     Ok(vec![high, low])
 }
 
-fn ring_update(words: &[u64]) -> Values {
+fn ring_update(words: &[u64], prices: [Whole; 2]) -> Values {
     let mut head = RingHead { used: words[0] == 1, index: words[1], mark: words[2] };
     let entry = words[3..8].try_into().expect("an entry has five words");
     let mut ring = filled_ring(head.index, entry);
-    let prices = [from_halves(words[9], words[10]), from_halves(words[11], words[12])];
     ring::update(&mut head, &mut ring, words[8], prices)?;
     let mut values = vec![head.used.into(), head.index, head.mark];
     values.extend(entry_at(&ring, head.index));

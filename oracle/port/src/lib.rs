@@ -1,7 +1,7 @@
 //! The port: libcp_swap.a over memory that a state is laid out in.
 
 use cp_swap::plain;
-use record::{Call, Opening, Receipt, State};
+use record::{Call, Opening, Rates, Receipt, State};
 
 /// A pool, its ring and a receipt, as the library has them.
 #[derive(Clone, PartialEq, Eq)]
@@ -23,6 +23,13 @@ impl Port {
         let mut port = Port::of(state, 0);
         port.receipt[1..].copy_from_slice(&receipt.words());
         port
+    }
+
+    /// What the memory holds after a call that is refused with this number.
+    pub fn refused(&self, number: u64) -> Port {
+        let mut receipt = [0; 16];
+        receipt[0] = number;
+        Port { receipt, ..self.clone() }
     }
 
     /// The call's number, 0 where it was accepted.
@@ -53,8 +60,9 @@ impl Port {
 }
 
 fn open(port: &mut Port, opening: &Opening) -> u64 {
-    let Opening { amounts, fee_model, enabled, open_time, rates } = *opening;
-    let rates = [rates.trade, rates.protocol, rates.fund, rates.creator, rates.share];
-    let terms = [fee_model, enabled, open_time];
-    plain::open(&mut port.pool, &mut port.ring, &mut port.receipt, amounts, terms, &rates)
+    let Opening { amounts: [amount_0, amount_1], fee_model, enabled, open_time, rates } = *opening;
+    let Rates { trade, protocol, fund, creator, share } = rates;
+    let words =
+        [amount_0, amount_1, fee_model, enabled, open_time, trade, protocol, fund, creator, share];
+    plain::open(&mut port.pool, &mut port.ring, &mut port.receipt, &words)
 }

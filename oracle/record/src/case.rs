@@ -83,14 +83,14 @@ impl Case {
         self.columns.len() == before + form.arguments.len()
             && (before == 0 || Pool::from_words(&self.columns[..21]).is_some())
             && !(self.kind == 22 && self.columns[4] > 1)
-            && !(self.kind == 30 && self.columns[0] > 1)
+            && !(matches!(self.kind, 30 | 36) && self.columns[0] > 1)
             && self.entry_is_in_ring()
     }
 
     fn entry_is_in_ring(&self) -> bool {
         let (index, entry) = match self.kind {
             2 | 3 => (self.columns[19], &self.columns[21..26]),
-            30 => (self.columns[1], &self.columns[3..8]),
+            30 | 36 => (self.columns[1], &self.columns[3..8]),
             _ => return true,
         };
         index < RING_ENTRIES as u64 || entry.iter().all(|word| *word == 0)

@@ -37,6 +37,16 @@ const ONE: &[&str] = &["result"];
 const CURVE: &[&str] = &["amount", "net in", "net out"];
 const VAULTS: &[&str] =
     &["vault 0", "vault 1", "protocol 0", "protocol 1", "fund 0", "fund 1", "creator 0", "creator 1"];
+const RING: &[&str] = &[
+    "ring used",
+    "ring index",
+    "ring mark",
+    "entry clock",
+    "sum 0 high",
+    "sum 0 low",
+    "sum 1 high",
+    "sum 1 low",
+];
 
 pub const FORMS: &[Form] = &[
     call(
@@ -102,16 +112,7 @@ pub const FORMS: &[Form] = &[
             "price 1 high",
             "price 1 low",
         ],
-        &[
-            "ring used",
-            "ring index",
-            "ring mark",
-            "entry clock",
-            "sum 0 high",
-            "sum 0 low",
-            "sum 1 high",
-            "sum 1 low",
-        ],
+        RING,
     ),
     function(31, "vault_amount_without_fee", VAULTS, &["net 0", "net 1"]),
     function(32, "token_price_x32", VAULTS, &["price 0 high", "price 0 low", "price 1 high", "price 1 low"]),
@@ -135,6 +136,24 @@ pub const FORMS: &[Form] = &[
     ),
     function(34, "is_creator_fee_on_input", &["fee model", "direction"], &["on input"]),
     function(35, "validate_supply", &["amount 0", "amount 1"], &[]),
+    function(
+        36,
+        "update at nets",
+        &[
+            "ring used",
+            "ring index",
+            "ring mark",
+            "entry clock",
+            "sum 0 high",
+            "sum 0 low",
+            "sum 1 high",
+            "sum 1 low",
+            "clock",
+            "net 0",
+            "net 1",
+        ],
+        RING,
+    ),
 ];
 
 pub fn form(kind: u64) -> Option<&'static Form> {

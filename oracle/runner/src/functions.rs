@@ -13,7 +13,8 @@ pub fn answer(case: &Case) -> Outcome {
     match case.kind {
         10..=17 => results(case, caught(|| Ok(fee(case.kind, words))).and_then(|result| result)),
         20..=23 => results(case, caught(|| Ok(curve(case.kind, words))).and_then(|result| result)),
-        30 => ring_update(words),
+        30 => ring_update(words, Ok((wide(words[9], words[10]), wide(words[11], words[12])))),
+        36 => ring_update(words, caught(|| counters([0; 6], 0).token_price_x32(words[9], words[10]))),
         31 => results(case, nets(words)),
         32 => results(case, prices(words)),
         33 => booking(words),
@@ -86,14 +87,15 @@ fn curve(kind: u64, words: &[u64]) -> Results {
     }
 }
 
-fn ring_update(words: &[u64]) -> Outcome {
+/// The ring at two prices, which are given or which the original makes of two nets.
+fn ring_update(words: &[u64], prices: Result<(u128, u128), Failure>) -> Outcome {
     let before = RingHead { used: words[0] == 1, index: words[1], mark: words[2] };
     let ring = filled_ring(before.index, words[3..8].try_into().expect("an entry has five words"));
     let mut state = match observation_state(&before, &ring) {
         Ok(state) => state,
         Err(reason) => return Outcome::Absent(reason),
     };
-    let result = caught(|| state.update(words[8], wide(words[9], words[10]), wide(words[11], words[12])));
+    let result = prices.and_then(|(price_0, price_1)| caught(|| state.update(words[8], price_0, price_1)));
     let after = head(&state);
     let entries = state.observations.map(entry);
     assert!(only_newest_written(&ring, &entries, after.index));

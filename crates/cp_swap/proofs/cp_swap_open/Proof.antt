@@ -7,8 +7,8 @@ use borrow.Author.Needs.{needs}
 use Rattle.cp_swap.proofs.cp_swap_open.Statement.{statement}
 use Rattle.cp_swap.proofs.cp_swap_open.Tie as tie
 
-rates-of-requires : tie.Need-rates-of-requires
-rates-of-requires c κs = search needs
+opening-of-requires : tie.Need-opening-of-requires
+opening-of-requires c κs = search needs
 
 open-on-requires : tie.Need-open-on-requires
 open-on-requires c κs = search needs
@@ -19,7 +19,7 @@ returns c =
     let k = c .before in
     let a = k .before .before .before .before .before .args in
     c .open-on .ensures
-    ∙ ap (openedWith (a .pool .now) (a .ring .now) (a .receipt .now) (a .amount0) (a .amount1) (a .model) (a .enabled) (a .open-time)) (k .rates-of .ensures)
+    ∙ ap (openedWith (a .pool .now) (a .ring .now) (a .receipt .now)) (k .opening-of .ensures)
 
 pub cp-swap-open-spec : {M : Type 1} → statement M
-cp-swap-open-spec = tie.close (tie.spec rates-of-requires open-on-requires returns)
+cp-swap-open-spec = tie.close (tie.spec opening-of-requires open-on-requires returns)

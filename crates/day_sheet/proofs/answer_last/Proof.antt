@@ -12,8 +12,11 @@ use Rattle.day_sheet.proofs.answer_last.Tie as tie
 finish-requires : tie.Need-finish-requires
 finish-requires c κs = search needs
 
-fits : (c : tie.After-finish) → c .finish .result .written ≤ length (c .finish .last .1 .1 .1 .0)
-fits c = ended-within (c .finish .result) _ _ _ _ (c .finish .ensures)
+fits : (c : tie.After-finish) → c .finish .result .written ≤ length (c .finish .last .1 .1 .1 .1 .0)
+fits c =
+    let start = c .before .before .before .before in
+    let a = start .args in
+    ended-within (a .going .rates) (a .going .begun) (a .pool .now) (a .ring .now) (a .held .now) _ (start .pre) (c .finish .ensures)
 
 array-share-prefix-output : tie.Need-array-share-prefix-output
 array-share-prefix-output c = fits c

@@ -1,55 +1,68 @@
--- `opening::opening_number` meets its contract, stage by stage.
+-- `opening::opening_number` meets its contract: its three stages make up the list.
 -- Assumes nothing.
-use mathlib.Core.Path.{_≡_, refl, sym, _∙_}
-use native.Mathlib.Omega.{arith}
-use Rattle.refusal.specs.Tests.{_then_, first}
-use Rattle.refusal.proofs.Stops.{turns, first-at, first-none, first-stage, first-past}
+use Prim.Native.Nat.{ℕ}
+use mathlib.Core.Path.{_≡_, refl, sym}
+use mathlib.Core.Bool.{cond}
+use mathlib.Core.List.{[], _∷_}
+use lib.Dec.{eqb, ltb}
+use Rattle.refusal.specs.Refusal.{EmptySupply, InvalidFeeModel, InvalidInput, InitLpAmountTooLess}
+use Rattle.refusal.specs.Tests.{Tests, _then_, first}
+use Rattle.refusal.proofs.Stops.{either-then}
 use Rattle.rates.specs.Rates.{rateLimits, rateTests}
-use Rattle.pool.specs.Opening.{openingFront, openingTests}
+use Rattle.opening.specs.declared.Opening.{Opening}
+use Rattle.opening.specs.Opening.{LeastSupply, supplyOf, openingTests}
 use borrow.Author.Needs.{needs}
 use Rattle.opening.proofs.opening_number.Statement.{statement}
 use Rattle.opening.proofs.opening_number.Tie as tie
 
-opening-front-requires : tie.Need-opening-front-requires
-opening-front-requires c κs = search needs
-
-returns : tie.Need-returns
-unfolding openingTests
-returns c = first-stage _ _ _ (c .before .opening-front .ensures) (omega arith)
+first4-requires : tie.Need-first4-requires
+first4-requires c κs = search needs
 
 rate-number-requires : tie.Need-rate-number-requires
 rate-number-requires c κs = search needs
 
--- amounts, model and enabled are passed
-front :
-    (c : tie.After-opening-front) → c .opening-front .result ≡ 0
-    → let a = c .before .args in
-    0 ≡ first (openingFront (a .amount0) (a .amount1) (a .model) (a .enabled))
-front c z = sym z ∙ c .opening-front .ensures
+first1-requires : tie.Need-first1-requires
+first1-requires c κs = search needs
 
--- the rates too
-rates : (c : tie.After-rate-number) → c .rate-number .result ≡ 0 → 0 ≡ first (rateTests (c .before .before .before .args .rates))
-rates c z = sym z ∙ c .rate-number .ensures
+either-requires : tie.Need-either-requires
+either-requires c κs = search needs
 
-returns-2 : tie.Need-returns-2
-unfolding openingTests openingFront
-returns-2 c =
-    first-past _ _ _ refl (front (c .before .before .before) (omega arith))
-    (first-stage _ _ _ (c .before .rate-number .ensures) (omega arith))
+either-requires-2 : tie.Need-either-requires-2
+either-requires-2 c κs = search needs
 
-returns-3 : tie.Need-returns-3
-unfolding openingTests openingFront rateTests rateLimits _then_
-returns-3 c =
-    first-past _ _ _ refl (front (c .before .before .before .before) (omega arith))
-    (first-past _ _ _ refl (rates (c .before .before) (omega arith)) (first-at 0 _ (omega (arith, turns))))
+-- an amount 0, 6; model 9; enabled not 0 or 1, 3
+abbrev front : Opening → Tests
+front o =
+    (eqb (o .amount0) 0, EmptySupply)
+    ∷ (eqb (o .amount1) 0, EmptySupply)
+    ∷ (ltb 2 (o .model), InvalidFeeModel)
+    ∷ (ltb 1 (o .enabled), InvalidInput)
+    ∷ []
 
-returns-4 : tie.Need-returns-4
-unfolding openingTests openingFront rateTests rateLimits _then_
-returns-4 c =
-    first-past _ _ _ refl (front (c .before .before .before .before) (omega arith))
-    (first-past _ _ _ refl (rates (c .before .before) (omega arith)) (first-none _ (omega (arith, turns))))
+abbrev least : ℕ → Tests
+least supply = (ltb supply LeastSupply, InitLpAmountTooLess) ∷ []
+
+joined :
+    (o : Opening) (supply n m k r s : ℕ) → supply ≡ supplyOf o → n ≡ first (front o) → m ≡ first (rateTests (o .rates)) → k ≡ first (least supply)
+    → r ≡ cond (eqb m 0) k m → s ≡ cond (eqb n 0) r n → s ≡ first (openingTests o)
+unfolding openingTests rateTests rateLimits _then_
+joined o supply n m k r s e f g h i j =
+    either-then (front o) (rateTests (o .rates) then least (supplyOf o)) n r s refl f
+    (either-then (rateTests (o .rates)) (least (supplyOf o)) m k r refl g (rw (sym e) h) i) j
+
+returns : tie.Need-returns
+returns c =
+    let k = c .before .before .before .before .before in
+    let a = k .before .before .before .before .before .args in
+    joined (a .opening) (a .supply) _ _ _ _ _ (k .before .before .before .before .before .pre) (k .first4 .ensures) (c .before .before .before .rate-number .ensures) (c .before .before .first1 .ensures) (c .before .either .ensures) (c .either2 .ensures)
 
 pub opening-number-spec : {M : Type 1} → statement M
 opening-number-spec =
     tie.close
-    (tie.spec opening-front-requires returns rate-number-requires returns-2 returns-3 returns-4)
+    (tie.spec
+    first4-requires
+    rate-number-requires
+    first1-requires
+    either-requires
+    either-requires-2
+    returns)

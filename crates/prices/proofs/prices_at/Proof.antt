@@ -1,7 +1,7 @@
 -- `prices::prices_at` meets its contract.
 -- Assumes nothing.
 use Prim.Native.Nat.{_^_, _<_}
-use mathlib.Core.Path.{_≡_, ap, _∙_}
+use mathlib.Core.Path.{ap, _∙_}
 use native.Mathlib.Omega.{arith}
 use Rattle.wide.specs.Value.{u128Of}
 use Rattle.wide.proofs.Words.{words-are}

@@ -1,16 +1,20 @@
 -- `receipt::amounts_receipt` meets its contract.
 -- Assumes nothing.
-use Rattle.receipt.specs.Receipt.{refusal, amounts}
+use mathlib.Core.Path.{refl}
+use Rattle.receipt.specs.Receipt.{amounts}
 use borrow.Author.Needs.{needs}
 use Rattle.receipt.proofs.amounts_receipt.Statement.{statement}
 use Rattle.receipt.proofs.amounts_receipt.Tie as tie
 
-refusal-receipt-requires : tie.Need-refusal-receipt-requires
-refusal-receipt-requires c κs = search needs
+no-trade-requires : tie.Need-no-trade-requires
+no-trade-requires c κs = search needs
+
+nothing-shared-requires : tie.Need-nothing-shared-requires
+nothing-shared-requires c κs = search needs
 
 returns : tie.Need-returns
-unfolding refusal amounts
-returns c = rw (c .refusal-receipt .ensures)
+unfolding amounts
+returns c = rw (c .before .no-trade .ensures, c .nothing-shared .ensures) refl
 
 pub amounts-receipt-spec : {M : Type 1} → statement M
-amounts-receipt-spec = tie.close (tie.spec refusal-receipt-requires returns)
+amounts-receipt-spec = tie.close (tie.spec no-trade-requires nothing-shared-requires returns)

@@ -4,8 +4,6 @@ use Prim.Native.Nat.{_≤_}
 use borrow.Author.Needs.{needs}
 use Rattle.replay.proofs.read_all.Statement.{statement}
 use Rattle.replay.proofs.read_all.Tie as tie
-use Rattle.replay.proofs.reading.Reading.new.Reads as reading-Reading-new-reads
-use Rattle.replay.proofs.tally.Tally.new.Reads as tally-Tally-new-reads
 
 abbrev Inv-loop : tie.InvT-loop
 Inv-loop progress₀ turns₀ progress turns = turns ≤ turns₀

@@ -13,14 +13,14 @@ word-requires-2 : tie.Need-word-requires-2
 word-requires-2 c κs = search needs
 
 -- the two flags
-enabled : (c : tie.After-word) → c .word .result ≡ cond (c .before .args .p .enabled) 1 0
+enabled : (c : tie.After-word) → c .word .result ≡ cond (c .before .args .p .terms .enabled) 1 0
 enabled c = c .word .ensures
 
 used : (c : tie.After-word2) → c .word2 .result ≡ cond (c .before .before .args .p .ring .used) 1 0
 used c = c .word2 .ensures
 
 returns : tie.Need-returns
-returns c = rw (enabled (c .before), used c)
+returns c = rw (enabled (c .before .before .before), used (c .before .before))
 
 pub pool-words-spec : {M : Type 1} → statement M
 pool-words-spec = tie.close (tie.spec word-requires word-requires-2 returns)

@@ -3,8 +3,11 @@
 use crate::random::Random;
 use record::{Case, FORMS};
 
+/// The ring at nets, which has cases of its own so that the others stay as they are.
+const AT_NETS: u64 = 36;
+
 pub fn case(random: &mut Random) -> Case {
-    let alone = FORMS.iter().filter(|form| !form.is_call());
+    let alone = FORMS.iter().filter(|form| !form.is_call() && form.kind != AT_NETS);
     let kinds: Vec<u64> = alone.map(|form| form.kind).chain([30, 30, 30]).collect();
     let kind = random.pick(&kinds);
     let columns = match kind {
@@ -41,6 +44,14 @@ fn curve(random: &mut Random) -> Vec<u64> {
     let (amount, net_in) = (random.any(), random.any());
     let net_out = if random.chance(3) { amount.saturating_add(random.below(4)) } else { random.any() };
     vec![amount, net_in, net_out]
+}
+
+/// The ring at two nets, neither of them 0.
+pub fn ring_at_nets(random: &mut Random) -> Case {
+    let mut columns = ring(random);
+    columns.truncate(9);
+    columns.extend([random.any().max(1), random.any().max(1)]);
+    Case { kind: AT_NETS, columns }
 }
 
 fn ring(random: &mut Random) -> Vec<u64> {

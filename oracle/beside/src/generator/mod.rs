@@ -1,6 +1,6 @@
 //! Cases without end: pools by hand, lists of calls from openings, functions alone.
 
-mod alone;
+pub mod alone;
 mod arguments;
 pub mod hand;
 pub mod list;

@@ -1,6 +1,5 @@
 -- `stream::feed::answer` meets its contract: the row is done, and its answer stands in its place (`Answering.antt`).
 -- Assumes nothing.
-use Rattle.sheet.specs.Sheet.{sheetOf}
 use Rattle.stream.proofs.Answering.{answered}
 use borrow.Author.Needs.{needs}
 use Rattle.stream.proofs.feed.answer.Statement.{statement}
@@ -21,14 +20,14 @@ read-row-requires c κs = search needs
 perform-requires : tie.Need-perform-requires
 perform-requires c κs = search needs
 
+receipt-of-requires : tie.Need-receipt-of-requires
+receipt-of-requires c κs = search needs
+
 amounts-of-requires : tie.Need-amounts-of-requires
 amounts-of-requires c κs = search needs
 
-net-or-0-requires : tie.Need-net-or-0-requires
-net-or-0-requires c κs = search needs
-
-net-or-0-requires-2 : tie.Need-net-or-0-requires-2
-net-or-0-requires-2 c κs = search needs
+holdings-of-requires : tie.Need-holdings-of-requires
+holdings-of-requires c κs = search needs
 
 write-row-at-requires : tie.Need-write-row-at-requires
 write-row-at-requires c κs = search needs
@@ -39,15 +38,17 @@ same-length c = search needs
 returns : tie.Need-returns
 returns c =
     let wrote = c .before .before in
-    let net1 = wrote .before .before in
-    let net0 = net1 .before in
-    let amounts = net0 .before .before .before in
-    let done = amounts .before .before .before in
-    let entries = done .perform .last .1 .0 in
-    let args = done .before .before .before .before .before .before .args in
-    answered (sheetOf (args .sheet) (args .entries .now)) (done .perform .result) entries (args .output .now) (args .at) (amounts .amounts-of .result)
-    (done .before .read-row .ensures) (done .perform .ensures) (amounts .amounts-of .ensures)
-    (net0 .net-or-0 .ensures) (net1 .net-or-02 .ensures) (wrote .write-row-at .ensures .1)
+    let held = wrote .before .before in
+    let amounts = held .before .before in
+    let shown = amounts .before in
+    let done = shown .before in
+    let start = done .before .before .before .before .before .before .before .before in
+    let args = start .args in
+    let left = done .perform .last .1 in
+    answered (args .rates) (args .pool .now) (args .ring .now) _ (done .perform .result) (left .0) (left .1 .0) (left .1 .1 .0) (args .output .now) (args .at)
+    (shown .receipt-of .result) (amounts .amounts-of .result) (held .holdings-of .result)
+    (start .pre .0) (done .before .read-row .ensures) (done .perform .ensures) (shown .receipt-of .ensures) (amounts .amounts-of .ensures) (held .holdings-of .ensures)
+    (wrote .write-row-at .ensures .1)
 
 pub answer-spec : {M : Type 1} → statement M
 answer-spec =
@@ -58,9 +59,9 @@ answer-spec =
     part-read-row-end
     read-row-requires
     perform-requires
+    receipt-of-requires
     amounts-of-requires
-    net-or-0-requires
-    net-or-0-requires-2
+    holdings-of-requires
     write-row-at-requires
     same-length
     returns)

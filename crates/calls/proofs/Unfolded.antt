@@ -1,0 +1,28 @@
+-- A call on numbers is worked out by computation.
+-- Assumes nothing.
+use Rattle.root.specs.Root.{rootAt, root}
+use Rattle.refusal.specs.Tests.{_then_, outcome}
+use Rattle.fees.specs.Fees.{feeUp, feeDown, split, preFee}
+use Rattle.curve.specs.ConstantProduct.{swapOut, swapIn, lpAmount}
+use Rattle.rates.specs.Rates.{rateLimits, rateTests, onInput}
+use Rattle.calculator.specs.Calculator.{swapBaseInput as inputWithFees, curveOutput, curveInput, charged, withFees, swapBaseOutput as outputWithFees}
+use Rattle.accounting.specs.Booking.{booked}
+use Rattle.oracle.specs.Ring.{entryAt, withEntry, price, acceptedUpdate}
+use Rattle.receipt.specs.Receipt.{refusal, refusedBooks, amounts}
+use Rattle.status.specs.Status.{flagged, statusTests, statusAfter}
+use Rattle.settlement.specs.Settlement.{settlementTests, settledCounters, settlementReceipt, settlementAt, settlementAfter}
+use Rattle.liquidity.specs.Liquidity.{depositTests, depositAt, depositAfter, withdrawTests, withdrawAt, withdrawAfter}
+use Rattle.opening.specs.Opening.{openingTests, refusedOpening, openingAfter}
+use Rattle.swap.specs.Swap.{lastTests, inputTests, outputTests, refusedSwap, paidBooks, swapReceipt, acceptedSwap, swapAfter}
+use Rattle.pool.specs.State.{refused}
+use Rattle.pool.specs.Calls.{zeroPool, zeroEntries, opening, decisionOf, swapBaseInput, swapBaseOutput, deposit, withdraw, settlement, setStatus}
+use Rattle.calls.specs.Next.{next}
+
+-- opens every definition of document 01 at once
+unfoldable pub all : Unit {0}
+unfolding rootAt root _then_ outcome feeUp feeDown split preFee swapOut swapIn lpAmount onInput inputWithFees curveOutput curveInput charged withFees outputWithFees
+    booked entryAt withEntry price acceptedUpdate refusal refusedBooks amounts rateLimits rateTests flagged statusTests statusAfter
+    settlementTests settledCounters settlementReceipt settlementAt settlementAfter depositTests depositAt depositAfter withdrawTests withdrawAt withdrawAfter
+    openingTests refusedOpening openingAfter lastTests inputTests outputTests refusedSwap paidBooks swapReceipt acceptedSwap swapAfter
+    refused zeroPool zeroEntries opening decisionOf swapBaseInput swapBaseOutput deposit withdraw settlement setStatus next
+all = tt

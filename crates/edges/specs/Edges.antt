@@ -1,0 +1,128 @@
+-- Document 01, 'Edges': the starred ones and the worked day, one table. Each row is an opening, what is asked of its pool, and what must come out.
+use Prim.Native.Nat.{ℕ, _+_}
+use mathlib.Core.Path.{_≡_}
+use mathlib.Core.List.{List, [], _∷_}
+use Rattle.rates.specs.declared.Rates.{Rates}
+use Rattle.curve.specs.declared.constant_product.LpTokens.{LpTokens}
+use Rattle.curve.specs.ConstantProduct.{tokens}
+use Rattle.pool.specs.State.{Done, net0, net1}
+use Rattle.opening.specs.declared.Opening.{Opening}
+use Rattle.pool.specs.Calls.{opening}
+use Rattle.calls.specs.declared.Call.{Call}
+use Rattle.calls.specs.declared.Call.the-variants.{SwapBaseInput, SwapBaseOutput, Deposit, Withdraw}
+use Rattle.calls.specs.Next.{left, next}
+
+pub data Asked : Type 0 where
+  itself : Asked
+  call : Call → Asked
+
+-- what document 01 speaks of
+pub data Field : Type 0 where
+  number : Field
+  paidIn0 : Field
+  paidIn1 : Field
+  paidOut0 : Field
+  paidOut1 : Field
+  tradeFee : Field
+  creatorFee : Field
+  fromCurve1 : Field
+  netAfter0 : Field
+  netAfter1 : Field
+  supplyAfter : Field
+
+pub record Edge : Type 0 where
+  pub opens : Opening
+  pub asked : Asked
+  pub out : List (Field × ℕ)
+
+-- ---- what comes out
+abbrev pub answer : Opening → Asked → Done
+answer o itself = opening o
+answer o (call c) = next (left (opening o)) c
+
+abbrev pub shown : Field → Done → ℕ
+shown number d = d .after .receipt .number
+shown paidIn0 d = d .after .receipt .paid .in0
+shown paidIn1 d = d .after .receipt .paid .in1
+shown paidOut0 d = d .after .receipt .paid .out0
+shown paidOut1 d = d .after .receipt .paid .out1
+shown tradeFee d = d .after .receipt .trade .«trade_fee»
+shown creatorFee d = d .after .receipt .trade .«creator_fee»
+-- what the curve gave, a creator fee on the output not yet taken
+shown fromCurve1 d = d .after .receipt .paid .out1 + d .after .receipt .trade .«creator_fee»
+shown netAfter0 d = net0 (d .after .pool)
+shown netAfter1 d = net1 (d .after .pool)
+shown supplyAfter d = d .after .pool .books .supply
+
+-- what a row's fields show, and what they must show
+abbrev pub found : Done → List (Field × ℕ) → List ℕ
+found d [] = []
+found d (f ∷ fs) = shown (f .0) d ∷ found d fs
+
+abbrev pub wanted : List (Field × ℕ) → List ℕ
+wanted [] = []
+wanted (f ∷ fs) = f .1 ∷ wanted fs
+
+abbrev pub allFound : List Edge → List (List ℕ)
+allFound [] = []
+allFound (e ∷ es) = found (answer (e .opens) (e .asked)) (e .out) ∷ allFound es
+
+abbrev pub allWanted : List Edge → List (List ℕ)
+allWanted [] = []
+allWanted (e ∷ es) = wanted (e .out) ∷ allWanted es
+
+-- ---- the table
+abbrev tradeAndCreator : ℕ → ℕ → Rates
+tradeAndCreator trade creator = record { trade = trade; protocol = 120000; fund = 40000; creator = creator; share = 0 }
+
+abbrev dayRates : ℕ → Rates
+dayRates creator = tradeAndCreator 2500 creator
+
+-- 1,000,000 by 4,000,000, at open time 0
+abbrev day : ℕ → ℕ → Rates → Opening
+day model enabled rates = record { amount0 = 1000000; amount1 = 4000000; model = model; enabled = enabled; «open_time» = 0; rates = rates }
+
+abbrev worked : Opening
+worked = day 0 0 (dayRates 0)
+
+abbrev square : ℕ → Opening
+square amount = record { amount0 = amount; amount1 = amount; model = 0; enabled = 0; «open_time» = 0; rates = dayRates 0 }
+
+abbrev lp : ℕ → LpTokens
+lp n = record { 0 = n }
+
+abbrev edge : Opening → Asked → List (Field × ℕ) → Edge
+edge o a out = record { opens = o; asked = a; out = out }
+
+unfoldable pub edges : List Edge
+edges =
+    -- the worked day
+    edge worked itself ((number, 0) ∷ (netAfter0, 1000000) ∷ (netAfter1, 4000000) ∷ (supplyAfter, 2000000) ∷ [])
+    ∷ edge worked (call (SwapBaseInput 0 10000 1 100))
+    ((number, 0) ∷ (paidIn0, 10000) ∷ (paidOut1, 39505) ∷ (netAfter0, 1009996) ∷ (netAfter1, 3960495) ∷ (supplyAfter, 2000000) ∷ [])
+    -- by output 39,505 costs 10,000; 4,000,000 is 11
+    ∷ edge worked (call (SwapBaseOutput 0 39505 10000 100)) ((number, 0) ∷ (paidIn0, 10000) ∷ (paidOut1, 39505) ∷ [])
+    ∷ edge worked (call (SwapBaseOutput 0 4000000 10000 100)) ((number, 11) ∷ [])
+    -- input 1 is 10; fee on 2 is 1
+    ∷ edge worked (call (SwapBaseInput 0 1 0 100)) ((number, 10) ∷ [])
+    ∷ edge worked (call (SwapBaseInput 0 2 0 100)) ((number, 0) ∷ (tradeFee, 1) ∷ [])
+    -- deposit LP 1 is 4, 3 takes 2 and 6; withdrawal of 3 gives 1 and 6
+    ∷ edge worked (call (Deposit (lp 1) (tokens 100) (tokens 100))) ((number, 4) ∷ [])
+    ∷ edge worked (call (Deposit (lp 3) (tokens 100) (tokens 100))) ((number, 0) ∷ (paidIn0, 2) ∷ (paidIn1, 6) ∷ [])
+    ∷ edge worked (call (Withdraw (lp 3) (lp 2000000) (tokens 0) (tokens 0))) ((number, 0) ∷ (paidOut0, 1) ∷ (paidOut1, 6) ∷ [])
+    -- enabled creator rate 1,000: 10,000 in pays creator 10, trade 25; model 2, token 0 in: curve 39,505, creator 40, out 39,465
+    ∷ edge (day 0 1 (dayRates 1000)) (call (SwapBaseInput 0 10000 1 100)) ((number, 0) ∷ (creatorFee, 10) ∷ (tradeFee, 25) ∷ [])
+    ∷ edge (day 2 1 (dayRates 1000)) (call (SwapBaseInput 0 10000 1 100)) ((number, 0) ∷ (fromCurve1, 39505) ∷ (creatorFee, 40) ∷ (paidOut1, 39465) ∷ [])
+    -- opening 100 by 100 is 13, 101 by 101 accepted
+    ∷ edge (square 100) itself ((number, 13) ∷ [])
+    ∷ edge (square 101) itself ((number, 0) ∷ [])
+    -- trade + creator 999,999 passes, 1,000,000 is 3
+    ∷ edge (day 0 0 (tradeAndCreator 999999 0)) itself ((number, 0) ∷ [])
+    ∷ edge (day 0 0 (tradeAndCreator 999999 1)) itself ((number, 3) ∷ [])
+    -- trade and creator rate 0, fee on input: 4
+    ∷ edge (day 0 0 (tradeAndCreator 0 0)) (call (SwapBaseInput 0 10000 1 100)) ((number, 4) ∷ [])
+    ∷ []
+
+-- what comes out is what must, in every row
+abbrev pub EdgesHold : Type 0
+EdgesHold = allFound edges ≡ allWanted edges

@@ -1,0 +1,66 @@
+-- Document 01, 'Opening' (amount 0, amount 1, model, enabled, open time, rates): the books and the terms that a pool begins with.
+use Prim.Native.Nat.{ℕ, _+_, _*_}
+use mathlib.Core.Bool.{false}
+use mathlib.Core.List.{[], _∷_}
+use lib.Dec.{ltb, eqb}
+use Rattle.root.specs.Root.{root}
+use Rattle.refusal.specs.Refusal.{EmptySupply, InvalidFeeModel, InvalidInput, InitLpAmountTooLess}
+use Rattle.refusal.specs.Tests.{Tests, outcome}
+use Rattle.fees.specs.Fees.{Million}
+use Rattle.rates.specs.declared.Rates.{Rates}
+use Rattle.rates.specs.declared.Terms.{Terms}
+use Rattle.rates.specs.Rates.{HighestFeeRate}
+use Rattle.accounting.specs.declared.Books.{Books}
+use Rattle.accounting.specs.Counters.{zeroCounters}
+use Rattle.receipt.specs.Kind.{Opening as kind}
+use Rattle.receipt.specs.Receipt.{refusal, amounts}
+use Rattle.opening.specs.declared.Opening.{Opening}
+use Rattle.opening.specs.declared.OpeningAfter.{OpeningAfter}
+
+-- supply is the whole root of the product
+abbrev pub supplyOf : Opening → ℕ
+supplyOf o = root (o .amount0 * o .amount1)
+
+-- a supply below this is refused
+abbrev pub LeastSupply : ℕ
+LeastSupply = 101
+
+-- an amount 0 gives 6; model 9; enabled not 0 or 1, trade + creator above 999,999, protocol + fund above 1,000,000, or share above
+-- 1,000,000 gives 3; supply below 101 gives 13
+unfoldable pub openingTests : Opening → Tests
+openingTests o =
+    (eqb (o .amount0) 0, EmptySupply)
+    ∷ (eqb (o .amount1) 0, EmptySupply)
+    ∷ (ltb 2 (o .model), InvalidFeeModel)
+    ∷ (ltb 1 (o .enabled), InvalidInput)
+    ∷ (ltb HighestFeeRate (o .rates .trade + o .rates .creator), InvalidInput)
+    ∷ (ltb Million (o .rates .protocol + o .rates .fund), InvalidInput)
+    ∷ (ltb Million (o .rates .share), InvalidInput)
+    ∷ (ltb (supplyOf o) LeastSupply, InitLpAmountTooLess)
+    ∷ []
+
+-- counters start at 0; the opener holds the whole supply
+abbrev pub booksWith : ℕ → ℕ → ℕ → Books
+booksWith amount0 amount1 supply = record { vault0 = amount0; vault1 = amount1; fees = zeroCounters; supply = supply }
+
+abbrev pub openedTerms : Opening → Terms
+openedTerms o = record { rates = o .rates; «fee_model» = o .model; «open_time» = o .«open_time»; enabled = eqb (o .enabled) 1 }
+
+-- a refused opening gives its number with zeros
+abbrev pub zeroRates : Rates
+zeroRates = record { trade = 0; protocol = 0; fund = 0; creator = 0; share = 0 }
+
+abbrev pub zeroTerms : Terms
+zeroTerms = record { rates = zeroRates; «fee_model» = 0; «open_time» = 0; enabled = false }
+
+unfoldable pub refusedOpening : ℕ → OpeningAfter
+refusedOpening n = record { books = booksWith 0 0 0; terms = zeroTerms; receipt = refusal n }
+
+unfoldable pub openingAfter : Opening → OpeningAfter
+openingAfter o =
+    outcome (openingTests o) refusedOpening
+    (record {
+      books = booksWith (o .amount0) (o .amount1) (supplyOf o);
+      terms = openedTerms o;
+      receipt = amounts kind (o .amount0) (o .amount1) 0 0 (supplyOf o);
+    })

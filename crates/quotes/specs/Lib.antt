@@ -1,0 +1,2 @@
+pub mod Quotes
+pub mod Stages

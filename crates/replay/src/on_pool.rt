@@ -1,0 +1,94 @@
+// The calls: kinds 1 to 7.
+use crate::ring::ring_agrees;
+use crate::ring::ring_at;
+use crate::row::nth;
+use crate::row::pool_at;
+use calls::Call;
+use calls::apply;
+use curve::constant_product::LpTokens;
+use curve::constant_product::TradingTokens;
+use oracle::RING_WORDS;
+use pool::state::After;
+use pool::state::Pool;
+use receipt::DEPOSIT;
+use receipt::SETTLE_CREATOR_FEE;
+use receipt::SWAP_BASE_INPUT;
+use receipt::SWAP_BASE_OUTPUT;
+use receipt::WITHDRAW;
+use words::opening_of;
+use words::pool_words;
+use words::receipt_words;
+use words::stand_at;
+ghost use Prim.Native.Nat.{_≤_};
+
+// Receipt and pool from a place on.
+fn after_agrees(after: After, row: &[u64; 80], at: usize) -> bool
+    requires { ⌜ at ≤ 60 ⌝ }
+{
+    let pool = after.pool;
+    let receipt = after.receipt;
+    stand_at(&receipt_words(receipt), row, at) & stand_at(&pool_words(pool), row, at + 16)
+}
+
+// An opening's ring is one number throughout, which the row gives last.
+pub(crate) fn opening(row: &[u64; 80]) -> bool {
+    let opened = Pool::open(opening_of([
+        nth(row, 2),
+        nth(row, 3),
+        nth(row, 4),
+        nth(row, 5),
+        nth(row, 6),
+        nth(row, 7),
+        nth(row, 8),
+        nth(row, 9),
+        nth(row, 10),
+        nth(row, 11),
+    ]));
+    let entries = opened.entries;
+    let expected = [nth(row, 49); RING_WORDS];
+    stand_at(&entries, &expected, 0) & after_agrees(opened.after, row, 12)
+}
+
+// The row's call, of four arguments; those that it lacks are 0.
+fn call_of(row: &[u64; 80]) -> Call {
+    let kind = nth(row, 0);
+    let a = nth(row, 2);
+    let b = nth(row, 3);
+    let c = nth(row, 4);
+    let d = nth(row, 5);
+    match kind {
+        SWAP_BASE_INPUT => Call::SwapBaseInput {
+            direction: a,
+            amount: b,
+            minimum: c,
+            clock: d,
+        },
+        SWAP_BASE_OUTPUT => Call::SwapBaseOutput {
+            direction: a,
+            amount: b,
+            maximum: c,
+            clock: d,
+        },
+        DEPOSIT => Call::Deposit {
+            lp: LpTokens(a),
+            maximum0: TradingTokens(b),
+            maximum1: TradingTokens(c),
+        },
+        WITHDRAW => Call::Withdraw {
+            lp: LpTokens(a),
+            owned: LpTokens(b),
+            minimum0: TradingTokens(c),
+            minimum1: TradingTokens(d),
+        },
+        SETTLE_CREATOR_FEE => Call::Settle { share: a },
+        _ => Call::SetStatus { bit: a, flag: b },
+    }
+}
+
+// A call on a pool and its ring: receipt, pool and every number of the ring are compared.
+pub(crate) fn call(row: &[u64; 80]) -> bool {
+    let before = ring_at(row, 25, 27);
+    let mut entries = before;
+    let after = apply(pool_at(row, 6), &mut entries, call_of(row));
+    ring_agrees(&entries, before, row, 67, 69) & after_agrees(after, row, 32)
+}

@@ -1,0 +1,88 @@
+// The ring's entries, of which a row gives the newest, and the ring alone.
+use crate::row::nth;
+use crate::row::same;
+use oracle::RING_WORDS;
+use oracle::Ring;
+use oracle::RingAfter;
+use words::stand_at;
+ghost use Prim.Native.Nat.{_≤_, _<_};
+
+// Entries with 10,000 + w at each place w.
+fn filled() -> [u64; RING_WORDS] {
+    let mut out = [0u64; RING_WORDS];
+    for w in 0..RING_WORDS {
+        out[w] = 10000 + w as u64;
+    }
+    out
+}
+
+// The entries with five numbers of a row as the entry at an index that the row gives, if there is such an index.
+fn with_entry(
+    entries: [u64; RING_WORDS],
+    row: &[u64; 80],
+    index_at: usize,
+    at: usize,
+) -> [u64; RING_WORDS]
+    requires { ⌜ («index_at» < 80) × (at ≤ 75) ⌝ }
+{
+    let mut out = entries;
+    let index = nth(row, index_at);
+    if index < 100 {
+        let first = index as usize * 5;
+        out[first] = nth(row, at);
+        out[first + 1] = nth(row, at + 1);
+        out[first + 2] = nth(row, at + 2);
+        out[first + 3] = nth(row, at + 3);
+        out[first + 4] = nth(row, at + 4);
+    }
+    out
+}
+
+// The ring before a call: its index and its newest entry are in the row.
+pub(crate) fn ring_at(row: &[u64; 80], index_at: usize, at: usize) -> [u64; RING_WORDS]
+    requires { ⌜ («index_at» < 80) × (at ≤ 75) ⌝ }
+{
+    with_entry(filled(), row, index_at, at)
+}
+
+// Whether the ring after a call is the one before it with the entry that the row gives.
+pub(crate) fn ring_agrees(
+    entries: &[u64; RING_WORDS],
+    before: [u64; RING_WORDS],
+    row: &[u64; 80],
+    index_at: usize,
+    at: usize,
+) -> bool
+    requires { ⌜ («index_at» < 80) × (at ≤ 75) ⌝ }
+{
+    let expected = with_entry(before, row, index_at, at);
+    stand_at(entries, &expected, 0)
+}
+
+// What `Ring::update` gives: number, used, index, mark.
+fn head_agrees(after: RingAfter, row: &[u64; 80]) -> bool {
+    let ring = after.ring;
+    let used = if ring.used { 1 } else { 0 };
+    same(
+        row,
+        13,
+        after.number,
+        used,
+        ring.index,
+        ring.mark,
+        nth(row, 17),
+    )
+}
+
+// `Ring::update`: used, index, mark, entry, clock, nets.
+pub(crate) fn update(row: &[u64; 80]) -> bool {
+    let ring = Ring {
+        index: nth(row, 3),
+        mark: nth(row, 4),
+        used: nth(row, 2) == 1,
+    };
+    let before = ring_at(row, 3, 5);
+    let mut entries = before;
+    let after = ring.update(&mut entries, nth(row, 10), nth(row, 11), nth(row, 12));
+    head_agrees(after, row) & ring_agrees(&entries, before, row, 15, 17)
+}

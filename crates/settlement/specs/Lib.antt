@@ -1,0 +1,2 @@
+pub mod Settlement
+pub mod Stages

@@ -1,0 +1,10 @@
+pub mod Went
+pub mod Rows
+pub mod Printed
+pub mod Day
+pub mod Holding
+pub mod Library
+pub mod DayMemory
+pub mod Pieces
+pub mod Mixed
+pub mod NotVacuous

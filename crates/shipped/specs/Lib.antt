@@ -1,0 +1,6 @@
+pub mod Openings
+pub mod Library
+pub mod Written
+pub mod Day
+pub mod DayMemory
+pub mod Mixed

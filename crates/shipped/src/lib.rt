@@ -1,0 +1,29 @@
+// Demand 3 of what people run, each claim carried by a contract.
+ghost use Rattle.shipped.specs.Day.{OpeningsSeen, DayTheorem, PrintedTheorem};
+ghost use Rattle.shipped.specs.DayMemory.{DayMemoryTheorem};
+ghost use Rattle.shipped.specs.Library.{LibraryTheorem};
+ghost use Rattle.shipped.specs.Mixed.{RowPoints, MixedTheorem};
+ghost use mathlib.Core.Bool.{true};
+ghost use mathlib.Core.Path.{_≡_};
+
+// Of every list of the library's calls on a memory, after an opening there that is accepted (specs/Library.antt).
+pub fn library_theorem() -> bool
+    ensures { λ r. ⌜ (r ≡ true) × LibraryTheorem ⌝ }
+{
+    true
+}
+
+// Of every day sheet, whatever its bytes, and of the numbers in the rows that are written, however the input is cut (specs/Day.antt), by
+// the library's calls too (specs/DayMemory.antt).
+pub fn day_theorem() -> bool
+    ensures { λ r. ⌜ (r ≡ true) × OpeningsSeen × DayTheorem × PrintedTheorem × DayMemoryTheorem ⌝ }
+{
+    true
+}
+
+// Of one memory on which calls, openings and day sheets are mixed in any order (specs/Mixed.antt).
+pub fn mixed_theorem() -> bool
+    ensures { λ r. ⌜ (r ≡ true) × RowPoints × MixedTheorem ⌝ }
+{
+    true
+}
