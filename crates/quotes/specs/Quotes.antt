@@ -37,9 +37,11 @@ resultOf byInput t b zeroIn amount =
 abbrev pub closedTests : Terms → ℕ → ℕ → Tests
 closedTests t status clock = (bit 2 status, NotApproved) ∷ (ltb clock (t .«open_time»), NotApproved) ∷ []
 
+-- amount 0, 10
 abbrev pub noneTests : ℕ → Tests
 noneTests amount = (eqb amount 0, RequireViolated) ∷ []
 
+-- direction 5
 abbrev pub sideTests : ℕ → Tests
 sideTests direction = (ltb 1 direction, InvalidVault) ∷ []
 
@@ -50,10 +52,11 @@ frontTests true t status direction amount clock =
 frontTests false t status direction amount clock =
     feeLimits (t .rates) then (noneTests amount then (closedTests t status clock then sideTests direction))
 
--- counters' sums 8, vaults 7; a net of 0, 11; model 9
+-- a net of 0, 11; model 9
 abbrev pub modelTests : ℕ → ℕ → ℕ → Tests
 modelTests n0 n1 model = (eqb n0 0, Panic) ∷ (eqb n1 0, Panic) ∷ (ltb 2 model, InvalidFeeModel) ∷ []
 
+-- counters' sums 8, vaults 7; then those
 abbrev pub netTests : Books → ℕ → Tests
 netTests b model = counterTests b then modelTests (net0 b) (net1 b) model
 
@@ -67,6 +70,7 @@ abbrev pub slippageTests : Bool → ℕ → ℕ → ℕ → Tests
 slippageTests true input output limit = (eqb output 0, RequireViolated) ∷ (ltb output limit, ExceededSlippage) ∷ []
 slippageTests false input output limit = (ltb limit input, ExceededSlippage) ∷ []
 
+-- all of them, in the call's order
 unfoldable pub allTests : Bool → Terms → ℕ → Books → ℕ → ℕ → ℕ → ℕ → Tests
 allTests byInput t status b direction amount limit clock =
     let zeroIn = eqb direction 0 in
