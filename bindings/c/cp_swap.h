@@ -104,7 +104,7 @@ enum {
     CP_SWAP_NOT_APPROVED = 1,
     CP_SWAP_EXCEEDED_SLIPPAGE = 2,
     CP_SWAP_INVALID_INPUT = 3, /* also: a record whose enabled or ring-used is neither 0 nor 1 */
-    CP_SWAP_ZERO_TRADING_TOKENS = 4,
+    CP_SWAP_ZERO_TRADING_TOKENS = 4, /* deposits and withdrawals; no swap answers it */
     CP_SWAP_INVALID_VAULT = 5,
     CP_SWAP_EMPTY_SUPPLY = 6,
     CP_SWAP_INSUFFICIENT_VAULT = 7,

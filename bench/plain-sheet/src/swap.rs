@@ -37,7 +37,7 @@ impl Pool {
         refuse_if(self.is_closed(2) || clock < self.open_time, NOT_APPROVED)?;
         refuse_if(amount == 0, REQUIRE)?;
         let terms = self.terms(direction)?;
-        let quote = terms.by_input(amount)?;
+        let quote = terms.by_input(amount);
         refuse_if(quote.paid_out == 0, REQUIRE)?;
         refuse_if(quote.paid_out < minimum, SLIPPAGE)?;
         self.book(&terms, &quote, clock)
@@ -95,28 +95,30 @@ impl Terms {
         self.nets[1 - self.token_in].into()
     }
 
-    /// The creator's part of a total fee on the input.
-    fn split(&self, total: u64) -> Result<u64, u64> {
+    /// The creator's part of a total fee on the input; nothing of rates of 0.
+    fn split(&self, total: u64) -> u64 {
         let rates = u128::from(self.trade_rate) + u128::from(self.creator_rate);
-        refuse_if(rates == 0, ZERO_TOKENS)?;
-        Ok((u128::from(total) * u128::from(self.creator_rate) / rates) as u64)
+        if rates == 0 {
+            return 0;
+        }
+        (u128::from(total) * u128::from(self.creator_rate) / rates) as u64
     }
 
     fn curve_output(&self, less_fees: u128) -> u128 {
         less_fees * self.net_out() / (self.net_in() + less_fees)
     }
 
-    fn by_input(&self, paid_in: u64) -> Result<Quote, u64> {
+    fn by_input(&self, paid_in: u64) -> Quote {
         if self.fee_on_input {
             let total = rounded_up(paid_in.into(), self.trade_rate + self.creator_rate) as u64;
-            let creator_fee = self.split(total)?;
+            let creator_fee = self.split(total);
             let paid_out = self.curve_output((paid_in - total).into()) as u64;
-            Ok(Quote { paid_in, paid_out, trade_fee: total - creator_fee, creator_fee })
+            Quote { paid_in, paid_out, trade_fee: total - creator_fee, creator_fee }
         } else {
             let trade_fee = rounded_up(paid_in.into(), self.trade_rate) as u64;
             let output = self.curve_output((paid_in - trade_fee).into());
             let creator_fee = rounded_up(output, self.creator_rate) as u64;
-            Ok(Quote { paid_in, paid_out: output as u64 - creator_fee, trade_fee, creator_fee })
+            Quote { paid_in, paid_out: output as u64 - creator_fee, trade_fee, creator_fee }
         }
     }
 
@@ -130,10 +132,9 @@ impl Terms {
         let word = |amount: u128| u64::try_from(amount).map_err(|_| PANIC);
         if self.fee_on_input {
             let input = self.curve_input(paid_out.into())?;
-            self.split(0)?;
             let paid_in = word(before_fee(input, self.trade_rate + self.creator_rate)?)?;
             let total = paid_in - input as u64;
-            let creator_fee = self.split(total)?;
+            let creator_fee = self.split(total);
             Ok(Quote { paid_in, paid_out, trade_fee: total - creator_fee, creator_fee })
         } else {
             let output = before_fee(paid_out.into(), self.creator_rate)?;

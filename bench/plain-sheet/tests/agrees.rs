@@ -1,4 +1,4 @@
-//! The plain program gives document 01's example, and the answers of its model to any list.
+//! The plain program gives document 01's example, and the answers of the rules' model to any list.
 
 use beside::generator::list;
 use beside::random::Random;

@@ -58,7 +58,18 @@ impl Opening {
     fn words(&self) -> plain::OpeningWords {
         let Opening { amounts: [amount_0, amount_1], fee_model, enabled, open_time, rates } = *self;
         let Rates { trade, protocol, fund, creator, share } = rates;
-        [amount_0, amount_1, fee_model as u64, enabled.into(), open_time, trade, protocol, fund, creator, share]
+        [
+            amount_0,
+            amount_1,
+            fee_model as u64,
+            enabled.into(),
+            open_time,
+            trade,
+            protocol,
+            fund,
+            creator,
+            share,
+        ]
     }
 }
 

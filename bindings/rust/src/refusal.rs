@@ -13,7 +13,7 @@ pub enum Refusal {
     ExceededSlippage = 2,
     /// A rate, flag, bit or share is out of range.
     InvalidInput = 3,
-    /// An amount would be 0, or can't be reckoned.
+    /// An amount of a deposit or withdrawal would be 0, or the supply is. No swap answers it.
     ZeroTradingTokens = 4,
     /// The direction is neither of the two.
     InvalidVault = 5,

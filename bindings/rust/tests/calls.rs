@@ -71,6 +71,21 @@ fn a_swap_by_input_books_its_fees() {
 }
 
 #[test]
+fn on_a_free_day_no_fee_is_charged() {
+    let free = Opening { rates: Rates { trade: 0, ..RATES }, ..opening() };
+    let day = opened_with(free);
+    let swapped = Receipt { clock: 100, paid_in: [10_000, 0], paid_out: [0, 39_603], ..Receipt::default() };
+    let (mut pool, mut ring) = day.clone();
+    let by_input = pool.swap_base_input(&mut ring, Direction::ZeroForOne, 10_000, 39_603, 100);
+    assert_eq!(by_input, Ok(Receipt { kind: 2, ..swapped }));
+    assert_eq!(pool.nets(), Ok([1_010_000, 3_960_397]));
+    let (mut pool, mut ring) = day;
+    let by_output = pool.swap_base_output(&mut ring, Direction::ZeroForOne, 39_603, 10_000, 100);
+    assert_eq!(by_output, Ok(Receipt { kind: 3, ..swapped }));
+    assert_eq!(pool.nets(), Ok([1_010_000, 3_960_397]));
+}
+
+#[test]
 fn a_swap_by_output_costs_as_much() {
     let (mut pool, mut ring) = opened();
     let receipt = pool.swap_base_output(&mut ring, Direction::ZeroForOne, 39_505, 10_000, 100);

@@ -4,35 +4,21 @@ use Prim.Native.Nat.{ℕ, _+_, _*_, _-_, _≤_, _<_}
 use mathlib.Core.Path.{_≡_}
 use mathlib.Core.Bool.{Bool, true, false, cond}
 use native.Mathlib.Omega.{arith}
-use native.Mathlib.Nat.{mul-le-mul-left, add-zero}
-use lib.Dec.{eqb}
-use Rattle.divide.specs.Division.{ceilDiv}
-use Rattle.math.proofs.Rounding.{ceil-ge, share-floor-le, share-ceil-le, shares-le}
+use native.Mathlib.Nat.{add-zero}
+use Rattle.math.proofs.Rounding.{share-ceil-le, shares-le}
 use Rattle.math.proofs.Curve.{out-le, product-kept-by-input, product-kept-by-output}
 use Rattle.rates.specs.declared.Rates.{Rates}
 use Rattle.fees.specs.Fees.{Million, feeUp, feeDown, split, preFee}
+use Rattle.fees.proofs.Shares.{split-le}
 use Rattle.curve.specs.ConstantProduct.{swapOut, swapIn}
 use Rattle.calculator.specs.declared.SwapResult.{SwapResult}
 use Rattle.calculator.specs.Calculator.{charged, curveOutput, curveInput, swapBaseInput, withFees, swapBaseOutput}
+use Rattle.calculator.proofs.Swaps.{pre-fee-ge}
 
 -- ---- fees
 feeUp-le : (amount rate : ℕ) → rate ≤ Million → feeUp amount rate ≤ amount
 unfolding feeUp
 feeUp-le amount rate h = share-ceil-le amount rate Million h
-
-split-le : (total trade creator : ℕ) → split total trade creator ≤ total
-unfolding split
-split-le total trade creator = share-floor-le total creator (trade + creator) (omega arith)
-
-preFee-ge : (amount rate : ℕ) → rate < Million → amount ≤ preFee amount rate
-unfolding preFee
-preFee-ge amount rate h = go (eqb rate 0)
-  where
-    go : (b : Bool) → amount ≤ cond b amount (ceilDiv (amount * Million) (Million - rate))
-    go true = omega arith
-    go false =
-        let q = ceilDiv (amount * Million) (Million - rate) in
-        omega (arith, ceil-ge (amount * Million) (Million - rate) (omega arith), mul-le-mul-left {m = Million - rate} {n = Million} q (omega arith))
 
 -- ---- what any swap guarantees: d enters the curve and o leaves it
 pub record Fair (onInput : Bool) (netIn netOut : ℕ) (s : SwapResult) : Type 0 where
@@ -90,7 +76,7 @@ module _ (rates : Rates) (creator x y : ℕ) (h : rates .trade + creator < Milli
       record {
         d = asked;
         o = amount;
-        stays = omega (arith, preFee-ge asked (trade + creator) h, split-le fee trade creator, shares-fit (fee - part));
+        stays = omega (arith, pre-fee-ge asked (trade + creator) h, split-le fee trade creator, shares-fit (fee - part));
         pays = add-zero _;
         within = omega arith;
         curve = product-kept-by-output x y _ l;
@@ -101,8 +87,8 @@ module _ (rates : Rates) (creator x y : ℕ) (h : rates .trade + creator < Milli
       record {
         d = asked;
         o = out;
-        stays = omega (arith, preFee-ge asked trade (omega arith), shares-fit (preFee asked trade - asked));
-        pays = omega (arith, preFee-ge amount creator (omega arith));
+        stays = omega (arith, pre-fee-ge asked trade (omega arith), shares-fit (preFee asked trade - asked));
+        pays = omega (arith, pre-fee-ge amount creator (omega arith));
         within = omega arith;
         curve = product-kept-by-output x y _ l;
       }

@@ -4,8 +4,8 @@ use mathlib.Core.Path.{_≡_, refl, sym, ap, _∙_, subst}
 use mathlib.Core.Bool.{Bool, true, false, cond}
 use mathlib.Core.List.{[], _∷_}
 use mathlib.Core.Logic.{⊎-elim}
-use Prim.Native.Nat.{ℕ, _+_, _-_, _*_, _/_, _^_, _<_, _≤_}
-use native.Mathlib.Nat.{le-trans, le-div-iff-mul-le, le-of-mul-le-mul-right, mul-le-mul-left}
+use Prim.Native.Nat.{ℕ, _+_, _-_, _*_, _^_, _<_, _≤_}
+use native.Mathlib.Nat.{le-trans, le-div-iff-mul-le, mul-le-mul-left}
 use native.Mathlib.Omega.{arith}
 use lib.Dec.{eqb}
 use borrow.Author.Tests.{lt-ltb, le-ltb, lt-leb, ne-eqb}
@@ -16,7 +16,7 @@ use Rattle.math.specs.declared.ratio.Quotient.{Quotient}
 use Rattle.math.specs.declared.ratio.Quotient.the-variants as Q
 use Rattle.math.proofs.ratio.Quotient.{the-type}
 use Rattle.math.specs.Ratio.{fit, ceilOf}
-use Rattle.math.proofs.Rounding.{lt-or-le, floor-le-ceil, share-floor-le, share-ceil-le, fit-fits, fit-past, ceil-is}
+use Rattle.math.proofs.Rounding.{lt-or-le, floor-le-ceil, share-ceil-le, fit-fits, fit-past, ceil-is}
 use Rattle.refusal.specs.Refusal.{Panic}
 use Rattle.refusal.specs.Tests.{Tests, U64, _then_, first, outcome}
 use Rattle.refusal.proofs.Stops.{turns, facts, first-passed, outcome-at, outcome-all, outcome-past}
@@ -24,11 +24,11 @@ use Rattle.rates.specs.declared.Rates.{Rates}
 use Rattle.calculator.specs.declared.SwapResult.{SwapResult}
 use Rattle.calculator.specs.declared.SwapAnswer.{SwapAnswer}
 use Rattle.calculator.specs.declared.SwapAnswer.the-variants.{Swapped, Refused}
-use Rattle.fees.specs.Fees.{Million, feeUp, split, preFee}
+use Rattle.fees.specs.Fees.{Million, feeUp, preFee}
 use Rattle.curve.specs.ConstantProduct.{swapOut, swapIn}
 use Rattle.rates.specs.Rates.{rateLimits}
-use Rattle.calculator.specs.Calculator.{noSplit, charged, swapBaseInput, curveOutput, curveInput, withFees, quoteTests, swapBaseOutput}
-use Rattle.calculator.specs.Stages.{Limited, chargedSplit, inputStage, outputStage}
+use Rattle.calculator.specs.Calculator.{charged, swapBaseInput, curveOutput, curveInput, withFees, quoteTests, swapBaseOutput}
+use Rattle.calculator.specs.Stages.{Limited, chargedSplit, outputStage}
 
 -- ---- the rate limits
 module _ (rates : Rates) (creatorRate : ℕ) where
@@ -48,15 +48,6 @@ module _ (rates : Rates) (creatorRate : ℕ) where
 -- ---- no fee passes what it is taken of
 pub fee-le : (amount rate fee : ℕ) → rate ≤ Million → fee ≡ ceilDiv (amount * rate) Million → fee ≤ amount
 fee-le amount rate fee h e = rw e (share-ceil-le amount rate Million h)
-
-pub part-le : (total trade creator part : ℕ) → part ≡ total * creator / (trade + creator) → part ≤ total
-part-le total trade creator part e = rw e (share-floor-le total creator (trade + creator) (omega arith))
-
--- ---- the curve: a product with a net of u64 has a high half of at most the other factor
-pub high-below : (high low d net x : ℕ) → high * 2 ^ 64 + low ≡ d * net → net ≤ U64 → 0 < x → high < x + d
-high-below high low d net x e h p =
-    let le : high ≤ d = le-of-mul-le-mul-right {k = 2 ^ 64} (omega (arith, mul-le-mul-left d h)) (omega arith) in
-    omega arith
 
 -- ---- the amount before a fee
 pub pre-fee-unscaled : (amount rate : ℕ) → amount ≤ U64 → rate ≡ 0 → Q.Fits amount ≡ fit (preFee amount rate)
@@ -101,21 +92,20 @@ told-past q n e t =
     never : OneOf (1 ∷ 2 ∷ []) 0 → ⊥
     never t = ⊎-elim (λ h. omega arith) (λ h. omega arith) t
 
--- ---- by input: a result of the stage, with a split where the fee is on input
+-- ---- by input: the result, by the split where the fee is on input
 module _ (rates : Rates) (creatorRate netIn netOut amount : ℕ) where
   pub input-on-input :
-      (total output : ℕ) → (rates .trade + creatorRate ≡ 0 → ⊥) → total ≡ feeUp amount (rates .trade + creatorRate)
-      → output ≡ swapOut netIn netOut (amount - total)
-      → Swapped (chargedSplit rates creatorRate amount output total) ≡ inputStage true rates creatorRate netIn netOut amount
-  unfolding inputStage swapBaseInput chargedSplit
-  input-on-input total output z t o = rw (o, t) (outcome-all _ _ _ (omega (arith, turns)))
+      (total output : ℕ) → total ≡ feeUp amount (rates .trade + creatorRate) → output ≡ swapOut netIn netOut (amount - total)
+      → chargedSplit rates creatorRate amount output total ≡ swapBaseInput true rates creatorRate netIn netOut amount
+  unfolding swapBaseInput chargedSplit
+  input-on-input total output t o = rw (o, t)
 
   pub input-on-output :
       (trade curve creator : ℕ) → trade ≡ feeUp amount (rates .trade) → curve ≡ swapOut netIn netOut (amount - trade)
       → creator ≡ feeUp curve creatorRate
-      → Swapped (charged rates amount (curve - creator) trade creator) ≡ inputStage false rates creatorRate netIn netOut amount
-  unfolding inputStage swapBaseInput
-  input-on-output trade curve creator t o p = rw (p, o, t) (outcome-all _ _ _ (refl, tt))
+      → charged rates amount (curve - creator) trade creator ≡ swapBaseInput false rates creatorRate netIn netOut amount
+  unfolding swapBaseInput
+  input-on-output trade curve creator t o p = rw (p, o, t)
 
 -- ---- by output: where the stage stops, with the creator fee on either side
 module _ (onInput : Bool) (rates : Rates) (creatorRate netIn netOut amount : ℕ) where
@@ -133,23 +123,22 @@ module _ (onInput : Bool) (rates : Rates) (creatorRate netIn netOut amount : ℕ
     unfolding curveInput swapIn
     asks q o e f = f ∙ rw e (ceil-is _ _ (omega arith))
 
-    module _ (splits : noSplit onInput (rates .trade) creatorRate ≡ false) where
-      pub asked-past : U64 < curveInput onInput creatorRate netIn netOut amount → Refused Panic ≡ answer
-      unfolding outputStage quoteTests
-      asked-past h = outcome-at 2 _ _ _ (lt-leb _ _ there, (splits, lt-ltb _ _ h))
+    pub asked-past : U64 < curveInput onInput creatorRate netIn netOut amount → Refused Panic ≡ answer
+    unfolding outputStage quoteTests
+    asked-past h = outcome-at 1 _ _ _ (lt-leb _ _ there, lt-ltb _ _ h)
 
-      module _ (asked : ℕ) (told : Told asked (curveInput onInput creatorRate netIn netOut amount)) where
-        pub input-past : U64 < withFees onInput rates creatorRate asked amount .input → Refused Panic ≡ answer
-        unfolding outputStage quoteTests swapBaseOutput
-        input-past h = outcome-at 3 _ _ _ (lt-leb _ _ there, (splits, (le-ltb _ _ (told .1), rw (told .0) at (lt-ltb _ _ h))))
+    module _ (asked : ℕ) (told : Told asked (curveInput onInput creatorRate netIn netOut amount)) where
+      pub input-past : U64 < withFees onInput rates creatorRate asked amount .input → Refused Panic ≡ answer
+      unfolding outputStage quoteTests swapBaseOutput
+      input-past h = outcome-at 2 _ _ _ (lt-leb _ _ there, (le-ltb _ _ (told .1), rw (told .0) at (lt-ltb _ _ h)))
 
-        pub swapped :
-            (r : SwapResult) → r ≡ withFees onInput rates creatorRate asked amount → withFees onInput rates creatorRate asked amount .input ≤ U64
-            → Swapped r ≡ answer
-        unfolding outputStage quoteTests swapBaseOutput
-        swapped r f h =
-            ap Swapped (f ∙ ap (λ (a : ℕ). withFees onInput rates creatorRate a amount) (told .0))
-            ∙ outcome-all _ _ _ (lt-leb _ _ there, (splits, (le-ltb _ _ (told .1), (rw (told .0) at (le-ltb _ _ h), tt))))
+      pub swapped :
+          (r : SwapResult) → r ≡ withFees onInput rates creatorRate asked amount → withFees onInput rates creatorRate asked amount .input ≤ U64
+          → Swapped r ≡ answer
+      unfolding outputStage quoteTests swapBaseOutput
+      swapped r f h =
+          ap Swapped (f ∙ ap (λ (a : ℕ). withFees onInput rates creatorRate a amount) (told .0))
+          ∙ outcome-all _ _ _ (lt-leb _ _ there, (le-ltb _ _ (told .1), (rw (told .0) at (le-ltb _ _ h), tt)))
 
 -- what is charged over what the curve asks
 module _ (rates : Rates) (creatorRate asked amount input : ℕ) where

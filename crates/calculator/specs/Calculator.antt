@@ -1,10 +1,10 @@
--- Document 01, 'constant_product.rs, then calculator.rs': the two swaps with fees.
+-- Document 01, 'constant_product.rs, then calculator.rs', with document 02 (a): the two swaps with fees.
 -- netIn is the net of the token that goes in, netOut of the other; creatorRate is the rate that counts (0 unless the pool enables it).
 use Prim.Native.Nat.{ℕ, _+_, _-_}
-use mathlib.Core.Bool.{Bool, true, false, _&&_}
+use mathlib.Core.Bool.{Bool, true, false}
 use mathlib.Core.List.{[], _∷_}
 use lib.Dec.{leb, eqb}
-use Rattle.refusal.specs.Refusal.{Panic, ZeroTradingTokens}
+use Rattle.refusal.specs.Refusal.{Panic}
 use Rattle.refusal.specs.Tests.{Tests, _then_, past, outcome}
 use Rattle.rates.specs.declared.Rates.{Rates}
 use Rattle.rates.specs.Rates.{rateLimits}
@@ -13,10 +13,6 @@ use Rattle.calculator.specs.declared.SwapAnswer.{SwapAnswer}
 use Rattle.calculator.specs.declared.SwapAnswer.the-variants.{Swapped, Refused}
 use Rattle.fees.specs.Fees.{feeUp, feeDown, split, preFee}
 use Rattle.curve.specs.ConstantProduct.{swapOut, swapIn}
-
--- no split: fee on input, and trade plus creator rate is 0
-abbrev pub noSplit : Bool → ℕ → ℕ → Bool
-noSplit feeOnInput tradeRate creatorRate = feeOnInput && eqb (tradeRate + creatorRate) 0
 
 -- protocol and fund fee are shares of the trade fee
 unfoldable pub charged : Rates → ℕ → ℕ → ℕ → ℕ → SwapResult
@@ -66,22 +62,19 @@ swapBaseOutput feeOnInput rates creatorRate netIn netOut amount =
     withFees feeOnInput rates creatorRate (curveInput feeOnInput creatorRate netIn netOut amount) amount
 
 -- ---- as functions: they make those tests of the calls again on which they rest
--- a net of 0, 11; no split, 4
+-- the rate limits, 3; netIn 0, 11
 unfoldable pub inputAnswer : Bool → Rates → ℕ → ℕ → ℕ → ℕ → SwapAnswer
 inputAnswer feeOnInput rates creatorRate netIn netOut amount =
     outcome
     (rateLimits rates creatorRate
-    then ((eqb netIn 0, Panic)
-    ∷ (noSplit feeOnInput (rates .trade) creatorRate, ZeroTradingTokens)
-    ∷ []))
+    then ((eqb netIn 0, Panic) ∷ []))
     Refused
     (Swapped (swapBaseInput feeOnInput rates creatorRate netIn netOut amount))
 
--- output with creator fee at or above netOut, 11; no split, 4; input before or after fees past u64, 11
+-- output with creator fee at or above netOut, 11; input before or after fees past u64, 11
 unfoldable pub quoteTests : Bool → Rates → ℕ → ℕ → ℕ → ℕ → Tests
 quoteTests feeOnInput rates creatorRate netIn netOut amount =
     (leb netOut (curveOutput feeOnInput creatorRate amount), Panic)
-    ∷ (noSplit feeOnInput (rates .trade) creatorRate, ZeroTradingTokens)
     ∷ (past (curveInput feeOnInput creatorRate netIn netOut amount), Panic)
     ∷ (past (swapBaseOutput feeOnInput rates creatorRate netIn netOut amount .input), Panic)
     ∷ []

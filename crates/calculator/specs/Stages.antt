@@ -1,8 +1,6 @@
 -- What the private steps of this crate answer. No public definition rests on these.
 use Prim.Native.Nat.{ℕ, _+_, _-_, _≤_}
 use mathlib.Core.Bool.{Bool}
-use mathlib.Core.List.{[], _∷_}
-use Rattle.refusal.specs.Refusal.{ZeroTradingTokens}
 use Rattle.refusal.specs.Tests.{outcome}
 use Rattle.fees.specs.Fees.{Million, split}
 use Rattle.rates.specs.declared.Rates.{Rates}
@@ -10,7 +8,7 @@ use Rattle.rates.specs.Rates.{HighestFeeRate}
 use Rattle.calculator.specs.declared.SwapResult.{SwapResult}
 use Rattle.calculator.specs.declared.SwapAnswer.{SwapAnswer}
 use Rattle.calculator.specs.declared.SwapAnswer.the-variants.{Swapped, Refused}
-use Rattle.calculator.specs.Calculator.{noSplit, charged, quoteTests, swapBaseInput, swapBaseOutput}
+use Rattle.calculator.specs.Calculator.{charged, quoteTests, swapBaseOutput}
 
 -- what the rate limits leave
 pub record Limited (rates : Rates) (creatorRate : ℕ) : Type 0 where
@@ -22,15 +20,6 @@ unfoldable pub chargedSplit : Rates → ℕ → ℕ → ℕ → ℕ → SwapResu
 chargedSplit rates creatorRate input output total =
     let creator = split total (rates .trade) creatorRate in
     charged rates input output (total - creator) creator
-
--- a swap by input past the rate limits and the net's test
-unfoldable pub inputStage : Bool → Rates → ℕ → ℕ → ℕ → ℕ → SwapAnswer
-inputStage feeOnInput rates creatorRate netIn netOut amount =
-    outcome
-    ((noSplit feeOnInput (rates .trade) creatorRate, ZeroTradingTokens)
-    ∷ [])
-    Refused
-    (Swapped (swapBaseInput feeOnInput rates creatorRate netIn netOut amount))
 
 -- a swap by output past the rate limits
 unfoldable pub outputStage : Bool → Rates → ℕ → ℕ → ℕ → ℕ → SwapAnswer

@@ -1,6 +1,7 @@
-// The swaps with fees (document 01, 'constant_product.rs, then calculator.rs').
+// The swaps with fees (document 01, 'constant_product.rs, then calculator.rs', with document 02 (a)).
 // `net_in` is the net of the token that goes in, `net_out` of the other; `creator_rate` is the rate that counts, 0 unless the pool enables it.
 use fees::FEE_RATE_DENOMINATOR_VALUE;
+use fees::creator_part;
 use math::ratio::Quotient;
 use math::ratio::div_by_sum;
 use math::ratio::mul_div_ceil;
@@ -8,7 +9,6 @@ use rates::Rates;
 use rates::limit_number;
 use refusal::ACCEPTED;
 use refusal::PANIC;
-use refusal::ZERO_TRADING_TOKENS;
 use share::scale_ceil;
 use share::share_ceil;
 use share::share_floor;
@@ -19,8 +19,8 @@ ghost use Prim.Native.Nat.{_+_, _<_, _≤_};
 ghost use Rattle.math.specs.Ratio.{fit};
 ghost use Rattle.fees.specs.Fees.{Million, preFee};
 ghost use Rattle.curve.specs.ConstantProduct.{swapOut};
-ghost use Rattle.calculator.specs.Calculator.{charged, inputAnswer, outputAnswer};
-ghost use Rattle.calculator.specs.Stages.{Limited, chargedSplit, inputStage, outputStage};
+ghost use Rattle.calculator.specs.Calculator.{charged, swapBaseInput, inputAnswer, outputAnswer};
+ghost use Rattle.calculator.specs.Stages.{Limited, chargedSplit, outputStage};
 
 // What a swap moves and charges. `creator` is of the creator fee's token, the other fees are of the input.
 pub struct SwapResult {
@@ -57,10 +57,10 @@ fn charge(rates: Rates, input: u64, output: u64, trade: u64, creator: u64) -> Sw
 
 // Fee on input: the creator's part of the total fee by the split, the rest is trade fee.
 fn charge_split(rates: Rates, creator_rate: u64, input: u64, output: u64, total: u64) -> SwapResult
-    requires { ⌜ (Limited rates «creator_rate») × (0 < rates .trade + «creator_rate») ⌝ }
+    requires { ⌜ Limited rates «creator_rate» ⌝ }
     ensures { λ r. ⌜ r ≡ chargedSplit rates «creator_rate» input output total ⌝ }
 {
-    let creator = share_floor(total, creator_rate, rates.trade + creator_rate);
+    let creator = creator_part(total, rates.trade, creator_rate);
     charge(rates, input, output, total - creator, creator)
 }
 
@@ -91,17 +91,14 @@ fn input_with_fee_on_input(
     net_in: u64,
     net_out: u64,
     amount: u64,
-) -> SwapAnswer
+) -> SwapResult
     requires { ⌜ (Limited rates «creator_rate») × (0 < «net_in») ⌝ }
-    ensures { λ r. ⌜ r ≡ inputStage true rates «creator_rate» «net_in» «net_out» amount ⌝ }
+    ensures { λ r. ⌜ r ≡ swapBaseInput true rates «creator_rate» «net_in» «net_out» amount ⌝ }
 {
     let total_rate = rates.trade + creator_rate;
-    if total_rate == 0 {
-        return SwapAnswer::Refused(ZERO_TRADING_TOKENS);
-    }
     let total = share_ceil(amount, total_rate, FEE_RATE_DENOMINATOR_VALUE);
     let output = swap_out(net_in, net_out, amount - total);
-    SwapAnswer::Swapped(charge_split(rates, creator_rate, amount, output, total))
+    charge_split(rates, creator_rate, amount, output, total)
 }
 
 // Fee on output: trade fee on input, creator fee on the curve's output.
@@ -111,14 +108,14 @@ fn input_with_fee_on_output(
     net_in: u64,
     net_out: u64,
     amount: u64,
-) -> SwapAnswer
+) -> SwapResult
     requires { ⌜ (Limited rates «creator_rate») × (0 < «net_in») ⌝ }
-    ensures { λ r. ⌜ r ≡ inputStage false rates «creator_rate» «net_in» «net_out» amount ⌝ }
+    ensures { λ r. ⌜ r ≡ swapBaseInput false rates «creator_rate» «net_in» «net_out» amount ⌝ }
 {
     let trade = share_ceil(amount, rates.trade, FEE_RATE_DENOMINATOR_VALUE);
     let curve = swap_out(net_in, net_out, amount - trade);
     let creator = share_ceil(curve, creator_rate, FEE_RATE_DENOMINATOR_VALUE);
-    SwapAnswer::Swapped(charge(rates, amount, curve - creator, trade, creator))
+    charge(rates, amount, curve - creator, trade, creator)
 }
 
 // Swap by input: what an amount gives after fees.
@@ -140,9 +137,9 @@ pub fn swap_base_input(
         return SwapAnswer::Refused(PANIC);
     }
     if fee_on_input {
-        input_with_fee_on_input(rates, creator_rate, net_in, net_out, amount)
+        SwapAnswer::Swapped(input_with_fee_on_input(rates, creator_rate, net_in, net_out, amount))
     } else {
-        input_with_fee_on_output(rates, creator_rate, net_in, net_out, amount)
+        SwapAnswer::Swapped(input_with_fee_on_output(rates, creator_rate, net_in, net_out, amount))
     }
 }
 
@@ -160,14 +157,10 @@ fn output_with_fee_on_input(
     if amount >= net_out {
         return SwapAnswer::Refused(PANIC);
     }
-    let fee_rate = rates.trade + creator_rate;
-    if fee_rate == 0 {
-        return SwapAnswer::Refused(ZERO_TRADING_TOKENS);
-    }
     let Quotient::Fits(asked) = mul_div_ceil(net_in, amount, net_out - amount) else {
         return SwapAnswer::Refused(PANIC);
     };
-    let Quotient::Fits(input) = pre_fee(asked, fee_rate) else {
+    let Quotient::Fits(input) = pre_fee(asked, rates.trade + creator_rate) else {
         return SwapAnswer::Refused(PANIC);
     };
     SwapAnswer::Swapped(charge_split(rates, creator_rate, input, amount, input - asked))

@@ -1,4 +1,4 @@
--- Document 01, 'Edges': the starred ones and the worked day, one table. Each row is an opening, what is asked of its pool, and what must come out.
+-- Document 01, 'Edges': the starred ones and the worked day, with what document 02 (a) makes of one, in one table. Each row is an opening, what is asked of its pool, and what must come out.
 use Prim.Native.Nat.{ℕ, _+_}
 use mathlib.Core.Path.{_≡_}
 use mathlib.Core.List.{List, [], _∷_}
@@ -24,6 +24,8 @@ pub data Field : Type 0 where
   paidOut0 : Field
   paidOut1 : Field
   tradeFee : Field
+  protocolFee : Field
+  fundFee : Field
   creatorFee : Field
   fromCurve1 : Field
   netAfter0 : Field
@@ -47,6 +49,8 @@ shown paidIn1 d = d .after .receipt .paid .in1
 shown paidOut0 d = d .after .receipt .paid .out0
 shown paidOut1 d = d .after .receipt .paid .out1
 shown tradeFee d = d .after .receipt .trade .«trade_fee»
+shown protocolFee d = d .after .receipt .trade .«protocol_fee»
+shown fundFee d = d .after .receipt .trade .«fund_fee»
 shown creatorFee d = d .after .receipt .trade .«creator_fee»
 -- what the curve gave, a creator fee on the output not yet taken
 shown fromCurve1 d = d .after .receipt .paid .out1 + d .after .receipt .trade .«creator_fee»
@@ -119,8 +123,11 @@ edges =
     -- trade + creator 999,999 passes, 1,000,000 is 3
     ∷ edge (day 0 0 (tradeAndCreator 999999 0)) itself ((number, 0) ∷ [])
     ∷ edge (day 0 0 (tradeAndCreator 999999 1)) itself ((number, 3) ∷ [])
-    -- trade and creator rate 0, fee on input: 4
-    ∷ edge (day 0 0 (tradeAndCreator 0 0)) (call (SwapBaseInput 0 10000 1 100)) ((number, 4) ∷ [])
+    -- trade and creator rate 0, fee on input: accepted (02 (a)), all fees 0; by output the input is what the curve asks
+    ∷ edge (day 0 0 (tradeAndCreator 0 0)) (call (SwapBaseInput 0 10000 1 100))
+    ((number, 0) ∷ (paidIn0, 10000) ∷ (paidOut1, 39603) ∷ (tradeFee, 0) ∷ (protocolFee, 0) ∷ (fundFee, 0) ∷ (creatorFee, 0) ∷ (netAfter0, 1010000) ∷ (netAfter1, 3960397) ∷ [])
+    ∷ edge (day 0 0 (tradeAndCreator 0 0)) (call (SwapBaseOutput 0 39603 10000 100))
+    ((number, 0) ∷ (paidIn0, 10000) ∷ (paidOut1, 39603) ∷ (tradeFee, 0) ∷ (protocolFee, 0) ∷ (fundFee, 0) ∷ (creatorFee, 0) ∷ (netAfter0, 1010000) ∷ (netAfter1, 3960397) ∷ [])
     ∷ []
 
 -- what comes out is what must, in every row

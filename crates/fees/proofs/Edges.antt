@@ -2,7 +2,7 @@
 -- Assumes nothing.
 use mathlib.Core.Path.{_≡_, refl}
 use Rattle.refusal.specs.Tests.{outcome}
-use Rattle.answer.specs.declared.Answer.the-variants.{Amount, Refused}
+use Rattle.answer.specs.declared.Answer.the-variants.{Amount}
 use Rattle.fees.specs.Fees.{feeUp, preFee, ceilFee, tradingFee, calculatePreFeeAmount, splitCreatorFee, split}
 
 -- fee on 2 is 1
@@ -15,7 +15,7 @@ pub before-the-fee : calculatePreFeeAmount 9975 2500 ≡ Amount 10000
 unfolding calculatePreFeeAmount preFee outcome
 before-the-fee = refl
 
--- a rate sum of 0 has no split
-pub no-split : splitCreatorFee 25 0 0 ≡ Refused 4
+-- a split over a rate sum of 0 gives 0 (02 (a))
+pub split-over-none : splitCreatorFee 25 0 0 ≡ Amount 0
 unfolding splitCreatorFee split outcome
-no-split = refl
+split-over-none = refl

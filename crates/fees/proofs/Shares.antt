@@ -1,21 +1,22 @@
 -- The fees' answers, on plain numbers: where a result surely fits, and where the tests before it are passed.
 -- Assumes nothing.
 use mathlib.Core.Path.{_≡_, refl, sym, ap, _∙_}
-use mathlib.Core.List.{[], _∷_}
-use Prim.Native.Nat.{ℕ, _+_, _-_, _*_, _/_, _^_, _<_, _≤_}
+use mathlib.Core.Bool.{Bool, true, false, cond}
+use Prim.Native.Nat.{ℕ, _+_, _-_, _*_, _/_, _<_, _≤_}
+use native.Mathlib.Nat.{mul-zero, zero-div}
 use native.Mathlib.Omega.{arith}
+use lib.Dec.{eqb}
 use borrow.Author.Tests.{ne-eqb}
 use Rattle.divide.specs.Division.{ceilDiv}
-use Rattle.math.specs.Ratio.{ceilOf, floorOf}
+use Rattle.math.specs.Ratio.{ceilOf}
 use Rattle.math.proofs.Rounding.{share-floor-le, share-ceil-le}
 use Rattle.refusal.specs.Refusal.{ZeroTradingTokens, MathOverflow}
 use Rattle.refusal.specs.Tests.{U64}
-use Rattle.refusal.proofs.Stops.{turns, outcome-at, outcome-all, outcome-past}
-use Rattle.answer.specs.declared.Answer.{Answer}
-use Rattle.answer.specs.declared.Answer.the-variants.{Amount, Refused}
+use Rattle.refusal.proofs.Stops.{turns, outcome-all, outcome-past}
+use Rattle.answer.specs.declared.Answer.the-variants.{Amount}
 use Rattle.answer.specs.Answer.{answerOf}
 use Rattle.fees.specs.Fees.{Million, feeUp, feeDown, split, preFee, ceilFee, floorFee, splitCreatorFee, calculatePreFeeAmount}
-use Rattle.answer.proofs.Answers.{floor-answer, ceil-answer}
+use Rattle.answer.proofs.Answers.{ceil-answer}
 
 -- at a rate of at most the whole a fee is at most the amount
 module _ (amount rate : ℕ) (fits : amount ≤ U64) (low : rate ≤ Million) where
@@ -27,17 +28,32 @@ module _ (amount rate : ℕ) (fits : amount ≤ U64) (low : rate ≤ Million) wh
   unfolding floorFee feeDown
   floor-fee-fits fee e = ap Amount e ∙ outcome-all _ _ _ (omega (arith, turns, share-floor-le amount rate Million low))
 
--- a split is at most the total, over rates whose sum fits
-module _ (total trade creator : ℕ) (fits : trade + creator ≤ U64) where
-  pub split-fits : (part : ℕ) → total ≤ U64 → 0 < trade + creator → part ≡ total * creator / (trade + creator) → Amount part ≡ splitCreatorFee total trade creator
-  unfolding splitCreatorFee split
-  split-fits part t p e =
-      let low : creator ≤ trade + creator = omega arith in
-      ap Amount e ∙ outcome-all _ _ _ (omega (arith, turns, share-floor-le total creator (trade + creator) low))
+-- the split: without a creator rate and with one; it is at most the total
+module _ (total trade creator : ℕ) where
+  pub split-by-none : creator ≡ 0 → 0 ≡ split total trade creator
+  unfolding split
+  split-by-none z = rw z (go (eqb (trade + 0) 0))
+    where
+      go : (b : Bool) → 0 ≡ cond b 0 (total * 0 / (trade + 0))
+      go true = refl
+      go false = rw (mul-zero total) (sym (zero-div (trade + 0)))
 
-  pub split-quotient : answerOf ZeroTradingTokens MathOverflow (floorOf (total * creator) (trade + creator)) ≡ splitCreatorFee total trade creator
-  unfolding splitCreatorFee split
-  split-quotient = floor-answer _ _ _ _ ∙ outcome-past _ _ _ _ (omega (arith, turns))
+  pub split-by-some : (creator ≡ 0 → ⊥) → total * creator / (trade + creator) ≡ split total trade creator
+  unfolding split
+  split-by-some z = rw (ne-eqb (trade + creator) 0 (λ e. z (omega arith)))
+
+  pub split-le : split total trade creator ≤ total
+  unfolding split
+  split-le = go (eqb (trade + creator) 0)
+    where
+      go : (b : Bool) → cond b 0 (total * creator / (trade + creator)) ≤ total
+      go true = omega arith
+      go false = share-floor-le total creator (trade + creator) (omega arith)
+
+  -- over rates whose sum fits it is the answer
+  pub split-fits : (part : ℕ) → total ≤ U64 → trade + creator ≤ U64 → part ≡ split total trade creator → Amount part ≡ splitCreatorFee total trade creator
+  unfolding splitCreatorFee
+  split-fits part t fits e = ap Amount e ∙ outcome-all _ _ _ (omega (arith, turns, split-le))
 
 -- the amount before a fee
 pub pre-fee-none : (amount rate : ℕ) → amount ≤ U64 → rate ≡ 0 → Amount amount ≡ calculatePreFeeAmount amount rate

@@ -1,7 +1,7 @@
--- Document 01, 'math.rs, then fees.rs'. Rates are in millionths.
+-- Document 01, 'math.rs, then fees.rs', with document 02 (a). Rates are in millionths.
 -- 'Called alone these take u64 amounts and rates; none answers 4, a rate sum or result past 2^64 − 1 answers 8.'
 use Prim.Native.Nat.{ℕ, _+_, _*_, _-_, _/_}
-use mathlib.Core.Bool.{Bool, cond}
+use mathlib.Core.Bool.{cond}
 use mathlib.Core.List.{[], _∷_}
 use lib.Dec.{leb, eqb}
 use Rattle.divide.specs.Division.{ceilDiv}
@@ -20,9 +20,9 @@ feeUp amount rate = ceilDiv (amount * rate) Million
 unfoldable pub feeDown : ℕ → ℕ → ℕ
 feeDown amount rate = amount * rate / Million
 
--- the creator's part of a fee at both rates: total × creator / (trade + creator), down
+-- the creator's part of a fee at both rates: 0 at a rate sum of 0 (02 (a)), else total × creator / (trade + creator), down
 unfoldable pub split : ℕ → ℕ → ℕ → ℕ
-split total trade creator = total * creator / (trade + creator)
+split total trade creator = cond (eqb (trade + creator) 0) 0 (total * creator / (trade + creator))
 
 -- the amount before a fee: the amount itself at rate 0, else amount × 1,000,000 / (1,000,000 − rate), up
 unfoldable pub preFee : ℕ → ℕ → ℕ
@@ -52,12 +52,11 @@ fundFee amount rate = floorFee amount rate
 abbrev pub creatorFeeSharedAmount : ℕ → ℕ → Answer
 creatorFeeSharedAmount amount rate = floorFee amount rate
 
--- none if the rates' sum is 0
+-- a rate sum past u64, 8; one of 0 is no refusal, its split is 0
 unfoldable pub splitCreatorFee : ℕ → ℕ → ℕ → Answer
 splitCreatorFee total trade creator =
     outcome
     ((past (trade + creator), MathOverflow)
-    ∷ (eqb (trade + creator) 0, ZeroTradingTokens)
     ∷ (past (split total trade creator), MathOverflow)
     ∷ [])
     Refused

@@ -1,6 +1,7 @@
 // The fees, `curve/fees.rs` of the original: shares of an amount at a rate in millionths.
 use answer::Answer;
 use answer::from_quotient;
+use math::ratio::div_by_sum;
 use math::ratio::mul_div_ceil;
 use math::ratio::mul_div_floor;
 use refusal::MATH_OVERFLOW;
@@ -8,14 +9,15 @@ use refusal::ZERO_TRADING_TOKENS;
 use share::scale_ceil;
 use share::share_ceil;
 use share::share_floor;
+use wide::widening_mul;
 ghost use mathlib.Core.Path.{_≡_};
-ghost use Rattle.fees.specs.Fees.{ceilFee, floorFee, tradingFee, protocolFee, fundFee, creatorFee, creatorFeeSharedAmount, splitCreatorFee, calculatePreFeeAmount};
+ghost use Rattle.fees.specs.Fees.{split, ceilFee, floorFee, tradingFee, protocolFee, fundFee, creatorFee, creatorFeeSharedAmount, splitCreatorFee, calculatePreFeeAmount};
 
 // Rates are in millionths.
 pub const FEE_RATE_DENOMINATOR_VALUE: u64 = 1_000_000;
 
-// Up to this divisor a share is reckoned in 64 bits.
-const NARROW: u64 = 0x1_0000_0000;
+// Two rates whose halves add up to less than this have a sum of at most 2^32, by which `share` reckons in 64 bits.
+const NARROW: u64 = 0x8000_0000;
 
 // amount × rate / 1,000,000, rounded up. A rate of at most the whole takes no 128-bit division.
 fn ceil_div(amount: u64, rate: u64) -> Answer
@@ -70,22 +72,30 @@ pub fn creator_fee_shared_amount(amount: u64, share_rate: u64) -> Answer
     floor_div(amount, share_rate)
 }
 
-// The creator's part of a fee that was taken at both rates together.
+// The creator's part of a fee that was taken at both rates together: 0 at a creator rate of 0, so also where both rates are 0 (document 02
+// (a)). It is at most the fee, so it fits at any rates. Narrow ones take no 128-bit division.
+pub fn creator_part(total_fee: u64, trade_fee_rate: u64, creator_fee_rate: u64) -> u64
+    ensures { λ r. ⌜ r ≡ split «total_fee» «trade_fee_rate» «creator_fee_rate» ⌝ }
+{
+    if creator_fee_rate == 0 {
+        return 0;
+    }
+    if trade_fee_rate / 2 + creator_fee_rate / 2 < NARROW {
+        let whole = trade_fee_rate + creator_fee_rate;
+        return share_floor(total_fee, creator_fee_rate, whole);
+    }
+    let product = widening_mul(total_fee, creator_fee_rate);
+    div_by_sum(product, trade_fee_rate, creator_fee_rate)
+}
+
+// That part; 8 where the rates' sum is past u64.
 pub fn split_creator_fee(total_fee: u64, trade_fee_rate: u64, creator_fee_rate: u64) -> Answer
     ensures { λ r. ⌜ r ≡ splitCreatorFee «total_fee» «trade_fee_rate» «creator_fee_rate» ⌝ }
 {
     if trade_fee_rate > u64::MAX - creator_fee_rate {
         return Answer::Refused(MATH_OVERFLOW);
     }
-    let whole = trade_fee_rate + creator_fee_rate;
-    if whole == 0 {
-        return Answer::Refused(ZERO_TRADING_TOKENS);
-    }
-    if whole <= NARROW {
-        return Answer::Amount(share_floor(total_fee, creator_fee_rate, whole));
-    }
-    let part = mul_div_floor(total_fee, creator_fee_rate, whole);
-    from_quotient(part, ZERO_TRADING_TOKENS, MATH_OVERFLOW)
+    Answer::Amount(creator_part(total_fee, trade_fee_rate, creator_fee_rate))
 }
 
 // The least amount that leaves `post_fee_amount` after a fee at the rate.

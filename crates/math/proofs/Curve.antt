@@ -1,7 +1,7 @@
 -- The curve on two nets x and y: a swap never lowers their product, gives no more than there is, and what it asks is enough.
 use mathlib.Core.Path.{_≡_, ap}
-use Prim.Native.Nat.{ℕ, _+_, _-_, _*_, _/_, _≤_, _<_}
-use native.Mathlib.Nat.{div-le-of-le-mul, le-div-iff-mul-le, mul-le-mul-right, le-add-left}
+use Prim.Native.Nat.{ℕ, _+_, _-_, _*_, _/_, _^_, _≤_, _<_}
+use native.Mathlib.Nat.{div-le-of-le-mul, le-div-iff-mul-le, lt-of-mul-lt-mul-right, mul-le-mul-left, mul-le-mul-right, le-add-left}
 use native.Mathlib.Omega.{arith}
 use Rattle.divide.specs.Division.{ceilDiv}
 use Rattle.math.proofs.Rounding.{floor-le, ceil-ge}
@@ -9,6 +9,10 @@ use Rattle.math.proofs.Rounding.{floor-le, ceil-ge}
 -- by input d: what is given is there
 pub out-le : (x y d : ℕ) → d * y / (x + d) ≤ y
 out-le x y d = div-le-of-le-mul (x + d) (mul-le-mul-right y (le-add-left d x))
+
+-- so its quotient has 64 bits: the product's high half is below the divisor
+pub high-below : (high low d y x : ℕ) → high * 2 ^ 64 + low ≡ d * y → y < 2 ^ 64 → 0 < x + d → high < x + d
+high-below high low d y x e h p = lt-of-mul-lt-mul-right (2 ^ 64) (omega (arith, mul-le-mul-left {m = y} {n = 2 ^ 64 - 1} d (omega arith)))
 
 -- by input d: the product does not fall
 pub product-kept-by-input : (x y d : ℕ) → x * y ≤ (x + d) * (y - d * y / (x + d))

@@ -1,16 +1,16 @@
--- Document 01, the two swaps up to the caller's limit: what a swap moves and charges, over a pool's terms t, status and books b.
+-- Document 01 with document 02 (a), the two swaps up to the caller's limit: what a swap moves and charges, over a pool's terms t, status and books b.
 -- The whole list of each swap's tests stands in `swap`; these are its first stages.
 use Prim.Native.Nat.{ℕ}
 use mathlib.Core.Bool.{Bool, true, false}
 use mathlib.Core.List.{[], _∷_}
 use lib.Dec.{ltb, eqb}
-use Rattle.refusal.specs.Refusal.{NotApproved, ExceededSlippage, ZeroTradingTokens, InvalidVault, InvalidFeeModel, RequireViolated, Panic}
+use Rattle.refusal.specs.Refusal.{NotApproved, ExceededSlippage, InvalidVault, InvalidFeeModel, RequireViolated, Panic}
 use Rattle.refusal.specs.Tests.{Tests, _then_, outcome}
 use Rattle.rates.specs.declared.Terms.{Terms}
 use Rattle.rates.specs.declared.Rates.{Rates}
 use Rattle.rates.specs.Rates.{limitTests as feeLimits, creatorRate, onInput}
 use Rattle.calculator.specs.declared.SwapResult.{SwapResult}
-use Rattle.calculator.specs.Calculator.{noSplit, quoteTests, swapBaseInput, swapBaseOutput}
+use Rattle.calculator.specs.Calculator.{quoteTests, swapBaseInput, swapBaseOutput}
 use Rattle.accounting.specs.declared.Books.{Books}
 use Rattle.accounting.specs.Counters.{ofToken, net0, net1, counterTests}
 use Rattle.status.specs.Status.{bit}
@@ -60,9 +60,9 @@ modelTests n0 n1 model = (eqb n0 0, Panic) ∷ (eqb n1 0, Panic) ∷ (ltb 2 mode
 abbrev pub netTests : Books → ℕ → Tests
 netTests b model = counterTests b then modelTests (net0 b) (net1 b) model
 
--- by input no split, 4; by output the calculator's own
+-- by input no test; by output the calculator's own
 abbrev pub calculatorTests : Bool → Bool → Rates → ℕ → ℕ → ℕ → ℕ → Tests
-calculatorTests true feeOnInput rates creatorRate netIn netOut amount = (noSplit feeOnInput (rates .trade) creatorRate, ZeroTradingTokens) ∷ []
+calculatorTests true feeOnInput rates creatorRate netIn netOut amount = []
 calculatorTests false feeOnInput rates creatorRate netIn netOut amount = quoteTests feeOnInput rates creatorRate netIn netOut amount
 
 -- by input: output 0, 10; output below the limit, 2. By output: input above the limit, 2

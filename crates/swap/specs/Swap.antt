@@ -1,16 +1,17 @@
--- Document 01, 'Swap by input' (direction, amount, minimum, clock) and 'Swap by output' (direction, amount, maximum, clock), over a pool's
--- terms t, status and books b, the ring's head and its newest entry e. zeroIn is true where token 0 goes in (direction 0).
+-- Document 01, 'Swap by input' (direction, amount, minimum, clock) and 'Swap by output' (direction, amount, maximum, clock), with
+-- document 02 (a), over a pool's terms t, status and books b, the ring's head and its newest entry e. zeroIn is true where token 0 goes in
+-- (direction 0).
 use Prim.Native.Nat.{ℕ, _+_, _-_}
 use mathlib.Core.Bool.{Bool, true, false}
 use mathlib.Core.List.{_∷_}
 use lib.Dec.{ltb, leb, eqb}
-use Rattle.refusal.specs.Refusal.{NotApproved, ExceededSlippage, InvalidInput, ZeroTradingTokens, InvalidVault, InsufficientVault, MathOverflow, InvalidFeeModel, RequireViolated, Panic}
+use Rattle.refusal.specs.Refusal.{NotApproved, ExceededSlippage, InvalidInput, InvalidVault, InsufficientVault, MathOverflow, InvalidFeeModel, RequireViolated, Panic}
 use Rattle.refusal.specs.Tests.{Tests, past, outcome}
 use Rattle.fees.specs.Fees.{Million}
 use Rattle.rates.specs.declared.Terms.{Terms}
 use Rattle.rates.specs.Rates.{HighestFeeRate, creatorRate, onInput}
 use Rattle.calculator.specs.declared.SwapResult.{SwapResult}
-use Rattle.calculator.specs.Calculator.{noSplit, curveOutput, curveInput}
+use Rattle.calculator.specs.Calculator.{curveOutput, curveInput}
 use Rattle.accounting.specs.declared.FeeCounters.{FeeCounters}
 use Rattle.accounting.specs.declared.Books.{Books}
 use Rattle.accounting.specs.Counters.{ofToken, counters0, counters1, net0, net1}
@@ -37,9 +38,9 @@ lastTests zeroIn zeroFee s b ring e clock =
     ∷ ringTests ring e clock (price (net0 b) (net1 b)) (price (net1 b) (net0 b))
 
 -- the rate limits, 3; bit 2 set or clock before open time, 1; amount 0, 10; direction 5; counters' sums 8, vaults 7; a net of 0, 11;
--- model 9; no split, 4; output 0, 10; output below minimum, 2; a counter past u64, 11; vault 8; ring
-unfoldable pub inputTests : Bool → Bool → Bool → SwapResult → Terms → ℕ → Books → Ring → Entry → ℕ → ℕ → ℕ → ℕ → Tests
-inputTests zeroIn feeOnInput zeroFee s t status b ring e direction amount minimum clock =
+-- model 9; output 0, 10; output below minimum, 2; a counter past u64, 11; vault 8; ring
+unfoldable pub inputTests : Bool → Bool → SwapResult → Terms → ℕ → Books → Ring → Entry → ℕ → ℕ → ℕ → ℕ → Tests
+inputTests zeroIn zeroFee s t status b ring e direction amount minimum clock =
     (ltb HighestFeeRate (t .rates .trade + t .rates .creator), InvalidInput)
     ∷ (ltb Million (t .rates .protocol + t .rates .fund), InvalidInput)
     ∷ (bit 2 status, NotApproved)
@@ -53,12 +54,11 @@ inputTests zeroIn feeOnInput zeroFee s t status b ring e direction amount minimu
     ∷ (eqb (net0 b) 0, Panic)
     ∷ (eqb (net1 b) 0, Panic)
     ∷ (ltb 2 (t .«fee_model»), InvalidFeeModel)
-    ∷ (noSplit feeOnInput (t .rates .trade) (creatorRate t), ZeroTradingTokens)
     ∷ (eqb (s .output) 0, RequireViolated)
     ∷ (ltb (s .output) minimum, ExceededSlippage)
     ∷ lastTests zeroIn zeroFee s b ring e clock
 
--- rate limits 3; amount 0, 10; then 1, 5, 8, 7, 11, 9 as by input; output with creator fee at or above netOut, 11; no split, 4;
+-- rate limits 3; amount 0, 10; then 1, 5, 8, 7, 11, 9 as by input; output with creator fee at or above netOut, 11;
 -- input before or after fees past u64, 11; input above maximum, 2; counters, vault, ring as by input
 unfoldable pub outputTests : Bool → Bool → Bool → SwapResult → Terms → ℕ → Books → Ring → Entry → ℕ → ℕ → ℕ → ℕ → Tests
 outputTests zeroIn feeOnInput zeroFee s t status b ring e direction amount maximum clock =
@@ -76,15 +76,14 @@ outputTests zeroIn feeOnInput zeroFee s t status b ring e direction amount maxim
     ∷ (eqb (net1 b) 0, Panic)
     ∷ (ltb 2 (t .«fee_model»), InvalidFeeModel)
     ∷ (leb (netOut zeroIn b) (curveOutput feeOnInput (creatorRate t) amount), Panic)
-    ∷ (noSplit feeOnInput (t .rates .trade) (creatorRate t), ZeroTradingTokens)
     ∷ (past (curveInput feeOnInput (creatorRate t) (netIn zeroIn b) (netOut zeroIn b) amount), Panic)
     ∷ (past (s .input), Panic)
     ∷ (ltb maximum (s .input), ExceededSlippage)
     ∷ lastTests zeroIn zeroFee s b ring e clock
 
 abbrev pub swapTests : Bool → Bool → Bool → Bool → SwapResult → Terms → ℕ → Books → Ring → Entry → ℕ → ℕ → ℕ → ℕ → Tests
-swapTests true = inputTests
-swapTests false = outputTests
+swapTests true zeroIn feeOnInput zeroFee = inputTests zeroIn zeroFee
+swapTests false zeroIn feeOnInput zeroFee = outputTests zeroIn feeOnInput zeroFee
 
 -- ---- what is given
 -- a refused swap: books and head as they were, the number and zeros, nothing to be written

@@ -4,10 +4,14 @@
 use beside::random::Random;
 use record::{Case, State};
 
+/// One list in so many is at a rate sum of 0.
+const FREE_ONE_IN: u64 = 8;
+
 pub fn opening(random: &mut Random) -> Case {
     let amounts = [1_000_000 + (random.word() >> random.below(40)) / 4, 1_000_000 + random.sized() / 4];
-    let (trade, protocol) = (1 + random.below(20_000), random.below(500_000));
-    let (fund, creator, share) = (random.below(500_000), random.below(20_000), random.below(1_000_001));
+    let (protocol, fund, share) = (random.below(500_000), random.below(500_000), random.below(1_000_001));
+    let free = random.chance(FREE_ONE_IN);
+    let (trade, creator) = if free { (0, 0) } else { (1 + random.below(20_000), random.below(20_000)) };
     let terms = [random.below(3), random.below(2), 0];
     let rates = [trade, protocol, fund, creator, share];
     Case { kind: 1, columns: [&amounts[..], &terms, &rates].concat() }

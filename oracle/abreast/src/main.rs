@@ -1,4 +1,4 @@
-//! The original, document 01 and the port abreast: `oracle/compare` says how to call it.
+//! The original, the rules and the port abreast: `oracle/compare` says how to call it.
 
 mod afresh;
 mod by_hand;

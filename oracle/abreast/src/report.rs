@@ -22,9 +22,10 @@ pub fn page(tally: &Tally, command: &str) -> String {
 fn sentence(tally: &Tally, command: &str) -> String {
     format!(
         "`oracle/compare {command}`: {} calls in {:.0} s.\n\n\
-         - the port beside document 01, every number of receipt, pool and ring: **{} differences**; \
+         - the port beside the rules, every number of receipt, pool and ring: **{} differences**; \
          {} more calls on records with a wrong flag, each refused with 3\n\
-         - the original beside document 01, outside the rows of DIFFERENCES.md: **{} differences**\n\
+         - the original beside the rules, outside the rows of DIFFERENCES.md: **{} differences**; \
+         left to the model: {}\n\
          - demand 3's claims over {} lists ({} calls, {} rounds of the ring): {} points afresh and \
          floor, {} pairs of points rise, **{} failures**",
         grouped(tally.calls),
@@ -32,6 +33,7 @@ fn sentence(tally: &Tally, command: &str) -> String {
         tally.port_faults,
         grouped(tally.wrong_flags),
         tally.original_faults,
+        left(tally),
         grouped(tally.lists),
         grouped(tally.list_calls),
         grouped(tally.ring_rounds),
@@ -39,6 +41,12 @@ fn sentence(tally: &Tally, command: &str) -> String {
         grouped(tally.pairs),
         tally.claim_faults,
     )
+}
+
+/// What was not put to the original, by reason.
+fn left(tally: &Tally) -> String {
+    let counts = tally.left.0.iter().map(|(left, count)| format!("{} calls, {left}", grouped(*count)));
+    counts.collect::<Vec<_>>().join("; ")
 }
 
 fn answers(tally: &Tally) -> String {

@@ -16,18 +16,21 @@ pub struct Fault {
     pub case: String,
 }
 
-/// Document 01's answer. The port's memory holds the state before the call, or anything at all
+/// The rules' answer. The port's memory holds the state before the call, or anything at all
 /// where it is an opening, and then what the call left.
 pub fn asked(before: &State, case: &Case, port: &mut Port, tally: &mut Tally) -> After {
     let call = case.call().expect("only calls are put to the port");
     let document = model::run(before, &call);
     tally.answered(case.kind, document.number);
     port_side(case, &call, &document, port, tally);
-    original_side(before, case, &call, &document, tally);
+    match case.left_to_model() {
+        Some(left) => tally.left.add(left),
+        None => original_side(before, case, &call, &document, tally),
+    }
     document
 }
 
-/// The port gives document 01's whole answer, and of a refused call writes only the receipt.
+/// The port gives the rules' whole answer, and of a refused call writes only the receipt.
 fn port_side(case: &Case, call: &Call, document: &After, port: &mut Port, tally: &mut Tally) {
     port.receipt = [FILL; 16];
     let expected = match document.number {
@@ -56,7 +59,7 @@ fn differing(number: u64, port: &Port, expected_number: u64, expected: &Port) ->
     let mut places = Vec::new();
     let mut compare = |name: &str, left: &[u64], right: &[u64]| {
         let at = left.iter().zip(right).position(|(left, right)| left != right);
-        places.extend(at.map(|at| format!("{name} {at}: the port {}, document 01 {}", left[at], right[at])));
+        places.extend(at.map(|at| format!("{name} {at}: the port {}, the rules {}", left[at], right[at])));
     };
     compare("number", &[number], &[expected_number]);
     compare("receipt", &port.receipt, &expected.receipt);

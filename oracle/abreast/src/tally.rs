@@ -1,6 +1,7 @@
 //! What was counted, and the faults.
 
 use crate::sides::Fault;
+use beside::left::LeftCounts;
 use beside::page;
 use beside::verdict::Side;
 use record::Case;
@@ -24,6 +25,8 @@ pub struct Tally {
     /// By kind and number.
     pub answers: BTreeMap<(u64, u64), u64>,
     pub classes: BTreeMap<String, Class>,
+    /// Calls that were not put to the original.
+    pub left: LeftCounts,
     /// Calls on records with a flag that is neither 0 nor 1.
     pub wrong_flags: u64,
     pub lists: u64,
@@ -46,6 +49,7 @@ impl Tally {
             calls: 0,
             answers: BTreeMap::new(),
             classes: BTreeMap::new(),
+            left: LeftCounts::default(),
             wrong_flags: 0,
             lists: 0,
             list_calls: 0,
@@ -97,12 +101,12 @@ impl Tally {
 
     pub fn port_fault(&mut self, what: String, case: &Case) {
         self.port_faults += 1;
-        self.keep(format!("the port beside document 01: {what}"), case);
+        self.keep(format!("the port beside the rules: {what}"), case);
     }
 
     pub fn original_fault(&mut self, what: String, case: &Case) {
         self.original_faults += 1;
-        self.keep(format!("the original beside document 01: {what}"), case);
+        self.keep(format!("the original beside the rules: {what}"), case);
     }
 
     pub fn claim_fault(&mut self, what: &str, case: &Case) {

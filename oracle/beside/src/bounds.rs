@@ -1,13 +1,16 @@
-//! Each bound of document 01 at the last number that passes and at the first that doesn't, and
-//! places where the order of two steps decides. Each row says its number, and stands once more
-//! with the tokens exchanged.
+//! Each bound of the rules at the last number that passes and at the first that doesn't, and places
+//! where the order of two steps decides. Each row says its number, some the fees too, and stands once
+//! more with the tokens exchanged.
 
+use crate::left::LeftCounts;
 use crate::verdict::{verdict, Side};
 use record::{filled_ring, Case, Entry, Pool, Rates, RingHead, State};
 
 struct Bound {
     says: &'static str,
     number: u64,
+    /// Columns of the answer that are the same with the tokens exchanged.
+    shows: Vec<(&'static str, u64)>,
     case: Case,
 }
 
@@ -15,11 +18,12 @@ const MOST: u64 = u64::MAX;
 const HALF: u64 = 1 << 63;
 const MILLION: u64 = 1_000_000;
 
-/// Prints each; whether all are as document 01 says.
+/// Prints each; whether all are as the rules say.
 pub fn all() -> bool {
     let bounds = bounds();
     let right = bounds.iter().filter(|bound| bound.holds()).count();
-    println!("{right} of {} bounds as document 01 says", bounds.len());
+    LeftCounts::of(bounds.iter().map(|bound| &bound.case)).print();
+    println!("{right} of {} bounds as the rules say", bounds.len());
     right == bounds.len()
 }
 
@@ -35,6 +39,8 @@ fn bounds() -> Vec<Bound> {
         counters(),
         limits(),
         swaps_out(),
+        free_swaps(),
+        charged_swaps(),
         vaults(),
         booked(),
         ring(),
@@ -54,19 +60,31 @@ fn bounds() -> Vec<Bound> {
 impl Bound {
     fn with_mirror(self) -> Vec<Bound> {
         let case = mirrored(&self.case);
-        let mirror = Bound { says: "  the same with the tokens exchanged", number: self.number, case };
-        if mirror.case == self.case {
-            vec![self]
-        } else {
-            vec![self, mirror]
+        if case == self.case {
+            return vec![self];
         }
+        let says = "  the same with the tokens exchanged";
+        let mirror = Bound { says, number: self.number, shows: self.shows.clone(), case };
+        vec![self, mirror]
+    }
+
+    /// Trade and creator fee of an accepted swap.
+    fn charging(self, trade: u64, creator: u64) -> Bound {
+        Bound { shows: vec![("trade fee", trade), ("creator fee", creator)], ..self }
+    }
+
+    /// The result of a function alone.
+    fn giving(self, result: u64) -> Bound {
+        Bound { shows: vec![("result", result)], ..self }
     }
 
     fn holds(&self) -> bool {
         let verdict = verdict(&self.case);
         let number = verdict.document.number;
-        let right = number == self.number && verdict.side != Side::Unlisted;
-        println!("{:70} {:2} {}", self.says, number, if right { "ok" } else { "FAIL" });
+        let answered = number == self.number && self.case.shows(&verdict.document, &self.shows);
+        let right = answered && verdict.side != Side::Unlisted;
+        let left = if verdict.side == Side::Left { ", left to the model" } else { "" };
+        println!("{:70} {:2} {}{left}", self.says, number, if right { "ok" } else { "FAIL" });
         right
     }
 }
@@ -99,7 +117,7 @@ fn mirrored(case: &Case) -> Case {
 }
 
 fn bound(says: &'static str, number: u64, case: Case) -> Bound {
-    Bound { says, number, case }
+    Bound { says, number, shows: vec![], case }
 }
 
 fn alone(kind: u64, columns: &[u64]) -> Case {
@@ -126,9 +144,19 @@ fn day() -> Pool {
     Pool { vaults: [MILLION, 4 * MILLION], supply: 2 * MILLION, rates, ..Pool::default() }
 }
 
-/// A pool that takes no trade fee on the input: the creator's, if any, is on the output.
+/// A pool whose one fee on the input is the trade fee: the creator's is on the output.
+fn trade(vaults: [u64; 2], rate: u64) -> Pool {
+    Pool { vaults, supply: 100, fee_model: 2, rates: rated(rate, 0, 0, 0, 0), ..Pool::default() }
+}
+
+/// A pool whose one fee is the creator's, on the output.
+fn creator(vaults: [u64; 2], rate: u64) -> Pool {
+    Pool { enabled: true, rates: rated(0, 0, 0, rate, 0), ..trade(vaults, 0) }
+}
+
+/// A pool whose rate sum is 0, with the fee on the input.
 fn free(vaults: [u64; 2]) -> Pool {
-    Pool { vaults, supply: 100, fee_model: 2, ..Pool::default() }
+    Pool { fee_model: 0, ..trade(vaults, 0) }
 }
 
 fn opening(amounts: [u64; 2], model: u64, enabled: u64, rates: [u64; 5]) -> Case {
@@ -257,48 +285,103 @@ fn limits() -> Vec<Bound> {
 /// By output: the output against the net, and the input before and after fees at 2^64 - 1, which
 /// no vault then takes (8), and past it (11).
 fn swaps_out() -> Vec<Bound> {
-    let trade = |net_in, net_out, rate| Pool { rates: rated(rate, 0, 0, 0, 0), ..free([net_in, net_out]) };
-    let on_input = |net_in, net_out, rate| Pool { fee_model: 0, ..trade(net_in, net_out, rate) };
-    let creator = Pool { enabled: true, rates: rated(0, 0, 0, 500_000, 0), ..free([1000, 1000]) };
-    let least = 18_446_725_626_965_477_905;
+    let even = trade([1000, 1000], 1);
+    let half = creator([1000, 1000], 500_000);
+    let on_input = |net_in| Pool { fee_model: 0, ..trade([net_in, 2], 1) };
+    // The creator's fee on a few tokens at rate 1 is 1, and the input has no fee.
+    let least = |net_in, net_out| creator([net_in, net_out], 1);
+    let most_after_fee = 18_446_725_626_965_477_905;
     let by_output = |pool, output| on(pool, 3, &[0, output, MOST, 5]);
     vec![
-        bound("output one below the net", 0, by_output(trade(1000, 1000, 0), 999)),
-        bound("output at the net", 11, by_output(trade(1000, 1000, 0), 1000)),
-        bound("output one above the net", 11, by_output(trade(1000, 1000, 0), 1001)),
-        bound("output with creator fee below the net", 0, by_output(creator, 499)),
-        bound("output with creator fee at the net", 11, by_output(creator, 500)),
-        bound("output with creator fee past u64", 11, by_output(creator, HALF)),
-        bound("input before fees 2^64 - 1", 8, by_output(trade(MOST, 2, 0), 1)),
-        bound("input before fees 2^64", 11, by_output(trade(HALF, 3, 0), 2)),
-        bound(
-            "input before fees 2^64 - 1, rounded up",
-            8,
-            by_output(trade(784_967_832_923_810_707, 49, 0), 47),
-        ),
-        bound(
-            "input before fees 2^64, rounded up",
-            11,
-            by_output(trade(1_190_112_520_884_487_201, 33, 0), 31),
-        ),
-        bound("input after fees 2^64 - 1", 8, by_output(trade(least, 2, 1), 1)),
-        bound("input after fees 2^64", 11, by_output(trade(least + 1, 2, 1), 1)),
-        bound("input after fees on input 2^64 - 1", 8, by_output(on_input(least, 2, 1), 1)),
-        bound("input after fees on input 2^64", 11, by_output(on_input(least + 1, 2, 1), 1)),
-        bound("input past u64, above the maximum", 11, on(trade(HALF, 3, 0), 3, &[0, 2, 0, 5])),
-        bound("no split, input past u64", 4, by_output(on_input(HALF, 3, 0), 2)),
+        bound("output one below the net", 0, by_output(even, 999)),
+        bound("output at the net", 11, by_output(even, 1000)),
+        bound("output one above the net", 11, by_output(even, 1001)),
+        bound("output with creator fee below the net", 0, by_output(half, 499)),
+        bound("output with creator fee at the net", 11, by_output(half, 500)),
+        bound("output with creator fee past u64", 11, by_output(half, HALF)),
+        bound("input before fees 2^64 - 1", 8, by_output(least(MOST, 4), 1)),
+        bound("input before fees 2^64", 11, by_output(least(HALF, 3), 1)),
+        bound("input before fees 2^64 - 1, rounded up", 8, by_output(least(784_967_832_923_810_707, 49), 46)),
+        bound("input before fees 2^64, rounded up", 11, by_output(least(1_190_112_520_884_487_201, 33), 30)),
+        bound("input after fees 2^64 - 1", 8, by_output(trade([most_after_fee, 2], 1), 1)),
+        bound("input after fees 2^64", 11, by_output(trade([most_after_fee + 1, 2], 1), 1)),
+        bound("input after fees on input 2^64 - 1", 8, by_output(on_input(most_after_fee), 1)),
+        bound("input after fees on input 2^64", 11, by_output(on_input(most_after_fee + 1), 1)),
+        bound("input past u64, above the maximum", 11, on(least(HALF, 3), 3, &[0, 1, 0, 5])),
+    ]
+}
+
+/// Document 02 (a): swaps at a rate sum of 0, and the steps before and behind the split.
+fn free_swaps() -> Vec<Bound> {
+    let day = Pool { rates: rated(0, 120_000, 40_000, 0, 0), ..day() };
+    let not_enabled = Pool { rates: rated(0, 120_000, 40_000, 1000, 0), ..day };
+    let on_output = Pool { fee_model: 2, ..day };
+    let by_input = |pool, input, minimum| on(pool, 2, &[0, input, minimum, 5]);
+    let by_output = |pool, output, maximum| on(pool, 3, &[0, output, maximum, 5]);
+    let mut out = vec![
+        bound("free, 1 in", 0, by_input(day, 1, 3)).charging(0, 0),
+        bound("free, output one below the minimum", 2, by_input(day, 10_000, 39_604)),
+        bound("free, input one above the maximum", 2, by_output(day, 39_603, 9_999)),
+        bound("free, the least that gives 1", 0, on(day, 2, &[1, 5, 1, 5])),
+        bound("free, output 0, below the minimum", 10, on(day, 2, &[1, 4, 1, 5])),
+        bound("free, output one below the net", 0, by_output(free([1000, 1000]), 999, 999_000)),
+        bound("free, output at the net, above the maximum", 11, by_output(free([1000, 1000]), 1000, 0)),
+        bound("free, input 2^64 - 1", 8, by_output(free([MOST, 2]), 1, MOST)),
+        bound("free, input 2^64 - 1, above the maximum", 2, by_output(free([MOST, 2]), 1, MOST - 1)),
+        bound("free, input 2^64, above the maximum", 11, by_output(free([HALF, 3]), 2, 0)),
+        bound("free, by input, vault at 2^64 - 1", 0, by_input(free([MOST - 2, MOST]), 2, 1)),
+        bound("free, by input, vault past it", 8, by_input(free([MOST - 1, MOST]), 2, 1)),
+    ];
+    let at_limit =
+        [("free", day), ("free, creator rate not enabled", not_enabled), ("free, fee on output", on_output)];
+    for (says, pool) in at_limit {
+        out.push(bound(says, 0, by_input(pool, 10_000, 39_603)).charging(0, 0));
+        out.push(bound(says, 0, by_output(pool, 39_603, 10_000)).charging(0, 0));
+    }
+    // Each also fails the steps behind it, down to output 0 or output at the net.
+    let before = [
+        ("free, closed", 1, Pool { status: 4, fee_model: 3, ..day }),
+        ("free, a net of 0, model 3", 11, Pool { vaults: [4, 0], fee_model: 3, ..day }),
+        ("free, model 3", 9, Pool { fee_model: 3, ..day }),
+    ];
+    for (says, number, pool) in before {
+        out.push(bound(says, number, on(pool, 2, &[1, 1, 1, 5])));
+        out.push(bound(says, number, on(pool, 3, &[0, 4 * MILLION, 0, 5])));
+    }
+    out
+}
+
+/// The least rate sum that charges, and a creator's fee without a trade fee: all of it by the split.
+fn charged_swaps() -> Vec<Bound> {
+    let pool = |trade, creator| {
+        let rates = rated(trade, 120_000, 40_000, creator, 0);
+        Pool { enabled: true, rates, ..day() }
+    };
+    let by_input = |pool, input, minimum| on(pool, 2, &[0, input, minimum, 5]);
+    let by_output = |pool, output, maximum| on(pool, 3, &[0, output, maximum, 5]);
+    vec![
+        bound("trade rate 1, 1 in", 10, by_input(pool(1, 0), 1, 0)),
+        bound("creator rate 1, 1 in", 10, by_input(pool(0, 1), 1, 0)),
+        bound("trade rate 1, by input", 0, by_input(pool(1, 0), 10_000, 39_600)).charging(1, 0),
+        bound("trade rate 1, output one below the minimum", 2, by_input(pool(1, 0), 10_000, 39_601)),
+        bound("creator rate 1, by input", 0, by_input(pool(0, 1), 10_000, 39_600)).charging(0, 1),
+        bound("trade rate 1, by output", 0, by_output(pool(1, 0), 39_603, 10_001)).charging(1, 0),
+        bound("trade rate 1, input one above the maximum", 2, by_output(pool(1, 0), 39_603, 10_000)),
+        bound("creator rate 1, by output", 0, by_output(pool(0, 1), 39_603, 10_001)).charging(0, 1),
+        bound("creator rate 1,000, by input", 0, by_input(pool(0, 1000), 10_000, 39_564)).charging(0, 10),
+        bound("creator rate 1,000, by output", 0, by_output(pool(0, 1000), 39_603, 10_011)).charging(0, 11),
     ]
 }
 
 /// A vault at 2^64 - 1 and past it.
 fn vaults() -> Vec<Bound> {
-    // The net of token 0 is 1,000, which one unit of token 1 costs.
-    let pool = |vault| Pool { fund: [vault - 1000, 0], ..free([vault, 2]) };
+    // The net of token 0 is 1,000, which one unit of token 1 costs, and a fee of 1.
+    let pool = |vault| Pool { fund: [vault - 1000, 0], ..trade([vault, 2], 1) };
     vec![
         bound("by input, vault at 2^64 - 1", 0, on(pool(MOST - 5000), 2, &[0, 5000, 1, 5])),
         bound("by input, vault past it", 8, on(pool(MOST - 4999), 2, &[0, 5000, 1, 5])),
-        bound("by output, vault at 2^64 - 1", 0, on(pool(MOST - 1000), 3, &[0, 1, MOST, 5])),
-        bound("by output, vault past it", 8, on(pool(MOST - 999), 3, &[0, 1, MOST, 5])),
+        bound("by output, vault at 2^64 - 1", 0, on(pool(MOST - 1001), 3, &[0, 1, MOST, 5])),
+        bound("by output, vault past it", 8, on(pool(MOST - 1000), 3, &[0, 1, MOST, 5])),
     ]
 }
 
@@ -334,11 +417,11 @@ fn at_ring(
     clock: u64,
     nets: [u64; 2],
 ) -> [Bound; 2] {
-    let pool = Pool { vaults: nets, supply: 100, fee_model: 2, head, ..Pool::default() };
-    // One unit of the scarcer token in is taken where the swap itself passes.
+    let pool = Pool { head, ..trade(nets, 1) };
     let words = [&[u64::from(head.used), head.index, head.mark][..], &entry, &[clock], &nets].concat();
+    // Of 3 in the fee takes 1, and 2 are enough for the swap itself to pass.
     [
-        bound(says, number, at_entry(pool, entry, 2, &[0, 2, 0, clock])),
+        bound(says, number, at_entry(pool, entry, 2, &[0, 3, 0, clock])),
         bound(says, number, Case { kind: 36, columns: words }),
     ]
 }
@@ -528,7 +611,11 @@ fn fees() -> Vec<Bound> {
         bound("a rate sum of 2^64", 8, alone(15, &[MOST, 1, MOST])),
         bound("a rate sum of 2^64 by the trade rate", 8, alone(15, &[MOST, MOST, 1])),
         bound("a creator's part of all", 0, alone(15, &[MOST, 0, MOST])),
-        bound("a rate sum of 0", 4, alone(15, &[MOST, 0, 0])),
+        bound("a rate sum of 0, of 2^64 - 1", 0, alone(15, &[MOST, 0, 0])).giving(0),
+        bound("a rate sum of 0, of 25", 0, alone(15, &[25, 0, 0])).giving(0),
+        bound("a rate sum of 0, of nothing", 0, alone(15, &[0, 0, 0])).giving(0),
+        bound("a rate sum of 1, the creator's", 0, alone(15, &[MOST, 0, 1])).giving(MOST),
+        bound("a rate sum of 1, not the creator's", 0, alone(15, &[MOST, 1, 0])).giving(0),
         bound("before the fee 2^64 - 1", 0, alone(16, &[least, 1])),
         bound("before the fee 2^64", 8, alone(16, &[least + 1, 1])),
         bound("before no fee 2^64 - 1", 0, alone(16, &[MOST, 0])),

@@ -1,6 +1,7 @@
-//! The original beside document 01 on many cases.
+//! The original beside the rules on many cases.
 
 use crate::generator::{small, Generator};
+use crate::left::LeftCounts;
 use crate::shrink::{shrunk, size};
 use crate::verdict::{verdict, Side, Verdict};
 use record::Case;
@@ -16,9 +17,10 @@ struct Class {
 
 #[derive(Default)]
 pub struct Tally {
-    /// By kind and document 01's number.
+    /// By kind and the rules' number.
     answers: BTreeMap<(u64, u64), u64>,
     classes: BTreeMap<String, Class>,
+    left: LeftCounts,
     unlisted: u64,
     cases: u64,
 }
@@ -52,6 +54,9 @@ impl Tally {
         let verdict = verdict(case);
         self.cases += 1;
         *self.answers.entry((case.kind, verdict.document.number)).or_default() += 1;
+        if let Some(left) = case.left_to_model() {
+            self.left.add(left);
+        }
         if verdict.side == Side::Unlisted {
             self.unlisted += 1;
         }
@@ -71,7 +76,7 @@ impl Tally {
 }
 
 fn report(tally: Tally) -> bool {
-    println!("\nanswers of document 01, by kind and number:");
+    println!("\nanswers of the rules, by kind and number:");
     for form in record::FORMS {
         let of_kind = tally.answers.range((form.kind, 0)..(form.kind + 1, 0));
         let counts: Vec<String> = of_kind.map(|((_, number), count)| format!("{number}: {count}")).collect();
@@ -83,13 +88,17 @@ fn report(tally: Tally) -> bool {
     for (side, title) in [
         (Side::Both, "the original agrees, but panics or has booked before"),
         (Side::DocumentAlone, "document 01 alone rules"),
+        (Side::Left, "left to the model"),
         (Side::Unlisted, "UNLISTED"),
     ] {
         println!("\n{title}:");
         let of_side = tally.classes.iter().filter(|(_, class)| class.side == side);
         of_side.for_each(|(name, class)| print_class(name, class));
     }
-    println!("\n{} unlisted differences in {} cases", tally.unlisted, tally.cases);
+    println!();
+    tally.left.print();
+    let compared = tally.cases - tally.left.sum();
+    println!("{} unlisted differences in {compared} cases put to the original", tally.unlisted);
     tally.unlisted == 0
 }
 
@@ -102,13 +111,13 @@ fn print_class(name: &str, class: &Class) {
 fn both_answers(verdict: &Verdict) -> String {
     let document = verdict.document.line();
     match &verdict.original {
-        Outcome::Absent(_) => format!("document 01: {document}"),
-        Outcome::Wide(results) => format!("the Rust: {results:?}; document 01: {document}"),
-        Outcome::Answered { answer, booked, .. } => {
+        None | Some(Outcome::Absent(_)) => format!("the rules: {document}"),
+        Some(Outcome::Wide(results)) => format!("the Rust: {results:?}; the rules: {document}"),
+        Some(Outcome::Answered { answer, booked, .. }) => {
             let left: Vec<String> = booked.iter().map(crate::driver::change).collect();
             let booked =
                 if left.is_empty() { String::new() } else { format!("; had booked {}", left.join(", ")) };
-            format!("the Rust: {}{booked}; document 01: {document}", answer.line())
+            format!("the Rust: {}{booked}; the rules: {document}", answer.line())
         }
     }
 }

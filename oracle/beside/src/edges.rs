@@ -1,11 +1,12 @@
-//! Document 01's worked example and its edges, answered by both sides. Openings are added
-//! by document 01, so there the original has no answer.
+//! Document 01's worked example and its edges, with document 02 (a), answered by both sides.
+//! Openings are added by document 01, so there the original has no answer.
 
-use crate::verdict::verdict;
-use record::{Answer, Call, Case, State, ENTRY_COLUMNS, POOL_COLUMNS, RECEIPT_COLUMNS};
+use crate::left::LeftCounts;
+use crate::verdict::{verdict, Side};
+use record::{Answer, Call, Case, State};
 use runner::Outcome;
 
-/// What document 01 says: a number, and some columns of the answer.
+/// What the rules say: a number, and some columns of the answer.
 struct Edge {
     says: &'static str,
     case: Case,
@@ -21,12 +22,13 @@ const WORKED_OUTPUT: [&str; 3] = [
     " 0               10000               39505             1009996             3960495             2000000",
 ];
 
-/// Prints each edge; whether all are as document 01 says.
+/// Prints each edge; whether all are as the rules say.
 pub fn all() -> bool {
     let worked = worked_example();
     let edges = edges();
     let right = edges.iter().filter(|edge| edge.holds()).count();
-    println!("{right} of {} edges as document 01 says", edges.len());
+    LeftCounts::of(edges.iter().map(|edge| &edge.case)).print();
+    println!("{right} of {} edges as the rules say", edges.len());
     worked && right == edges.len()
 }
 
@@ -36,7 +38,8 @@ pub fn cases() -> Vec<Case> {
 }
 
 fn edges() -> Vec<Edge> {
-    [worked_day(), calls(), creator_fees(), openings(), rate_limits(), ring()].into_iter().flatten().collect()
+    let named = [worked_day(), calls(), creator_fees(), free_day(), openings(), rate_limits(), ring()];
+    named.into_iter().flatten().collect()
 }
 
 fn opening(amounts: [u64; 2], model: u64, enabled: u64, rates: [u64; 5]) -> Case {
@@ -121,7 +124,29 @@ fn creator_fees() -> Vec<Edge> {
             0,
             &[("result", 39_505)],
         ),
-        edge("trade and creator rate 0, fee on input: 4", swap(0, 0, [0, 120_000, 40_000, 0, 0]), 4, &[]),
+    ]
+}
+
+/// Trade and creator rate 0, fee on input: accepted, with fees of 0.
+fn free_day() -> Vec<Edge> {
+    let pool = opened(0, 0, [0, 120_000, 40_000, 0, 0]);
+    let swapped = [
+        ("in 0", 10_000),
+        ("out 1", 39_603),
+        ("trade fee", 0),
+        ("protocol fee", 0),
+        ("fund fee", 0),
+        ("creator fee", 0),
+        ("vault 0", 1_010_000),
+        ("vault 1", 3_960_397),
+        ("protocol 0", 0),
+        ("fund 0", 0),
+        ("creator 0", 0),
+    ];
+    let swap = |kind, arguments: &[u64]| Case::of_call(&pool, kind, arguments);
+    vec![
+        edge("rates 0, fee on input: 10,000 in gives 39,603", swap(2, &[0, 10_000, 1, 100]), 0, &swapped),
+        edge("rates 0, by output 39,603 costs 10,000", swap(3, &[0, 39_603, 10_000, 100]), 0, &swapped),
     ]
 }
 
@@ -208,37 +233,26 @@ impl Edge {
         let verdict = verdict(&self.case);
         let document = self.is_met(&verdict.document);
         let original = match &verdict.original {
-            Outcome::Answered { answer, .. } => Some(self.is_met(answer)),
-            Outcome::Wide(_) => Some(false),
-            Outcome::Absent(_) => None,
+            Some(Outcome::Answered { answer, .. }) => Some(self.is_met(answer)),
+            Some(Outcome::Wide(_)) => Some(false),
+            Some(Outcome::Absent(_)) | None => None,
         };
         // A swap past the rate limits is refused by document 01 alone.
         let ruled_alone = verdict.class == "rates past the limits";
         let original_says = match original {
+            None if verdict.side == Side::Left => "no longer decides",
             None => "has no such call",
             Some(true) => "ok",
             Some(false) if ruled_alone => "has no such limit",
             Some(false) => "FAIL",
         };
         let document_says = if document { "ok" } else { "FAIL" };
-        println!("{:66} original {original_says}, document 01 {document_says}", self.says);
+        println!("{:66} original {original_says}, rules {document_says}", self.says);
         document && (original != Some(false) || ruled_alone)
     }
 
     fn is_met(&self, answer: &Answer) -> bool {
-        let wanted = |(name, value): &(&str, u64)| self.column(answer, name) == Some(*value);
-        answer.number == self.number && self.columns.iter().all(wanted)
-    }
-
-    fn column(&self, answer: &Answer, name: &str) -> Option<u64> {
-        let call = || RECEIPT_COLUMNS.iter().chain(&POOL_COLUMNS).chain(&ENTRY_COLUMNS);
-        let form = self.case.form();
-        let at = if form.is_call() {
-            call().position(|column| *column == name)
-        } else {
-            form.values.iter().position(|column| *column == name)
-        };
-        answer.values.get(at?).copied()
+        answer.number == self.number && self.case.shows(answer, &self.columns)
     }
 }
 

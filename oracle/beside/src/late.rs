@@ -179,5 +179,6 @@ fn read(call: &[u64]) -> Call {
 }
 
 fn run(state: &State, call: &[u64]) -> Run {
+    assert!(Case::of_call(state, call[0], &call[1..]).original_decides(), "a late refusal is the original's");
     runner::run(state, &read(call)).expect("the Rust has this call")
 }

@@ -1,4 +1,4 @@
-//! The original beside document 01: cases without end, what the two say to them, and how that is
+//! The original beside the rules: cases without end, what the two say to them, and how that is
 //! classed.
 
 pub mod bounds;
@@ -8,6 +8,7 @@ pub mod driver;
 pub mod edges;
 pub mod generator;
 pub mod late;
+pub mod left;
 pub mod page;
 pub mod random;
 mod reasons;

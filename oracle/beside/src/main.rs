@@ -1,4 +1,4 @@
-//! The original beside document 01: `oracle/run` says how to call it.
+//! The original beside the rules: `oracle/run` says how to call it.
 
 use beside::{bounds, compare, differences, driver, edges, generator, late, sample, sheet};
 use std::io::{self, BufWriter, Write};

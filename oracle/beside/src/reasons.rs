@@ -1,22 +1,18 @@
 //! Whether a case shows the reason of a difference, reckoned from its columns alone.
 
-use record::{Answer, Case, Pool};
+use record::{Answer, Case};
 
 const MILLION: u128 = 1_000_000;
 
-fn pool(case: &Case) -> Pool {
-    case.state().pool
-}
-
 pub fn rates_past_limits(case: &Case) -> bool {
-    let rates = pool(case).rates;
+    let rates = case.pool().rates;
     let sum = |left, right| u128::from(left) + u128::from(right);
     sum(rates.trade, rates.creator) >= MILLION || sum(rates.protocol, rates.fund) > MILLION
 }
 
 /// A swap by output whose input passes u64 even before fees.
 pub fn input_past_u64(case: &Case) -> bool {
-    let pool = pool(case);
+    let pool = case.pool();
     let [direction, output, ..] = *case.arguments() else {
         return false;
     };

@@ -60,7 +60,7 @@ impl Sample {
     fn keep_answered(&mut self, case: &Case, verdict: &Verdict) {
         let side = match verdict.side {
             Side::Both => 1,
-            Side::DocumentAlone => 2,
+            Side::DocumentAlone | Side::Left => 2,
             Side::Unlisted => panic!("a difference of no class: {}", case.line()),
         };
         if is_replayed(case.kind, verdict.document.number) && self.seen.insert(case.line()) {
@@ -80,7 +80,7 @@ impl Sample {
             if *count == 0 && !verdict.class.is_empty() {
                 self.keep(shrunk(&case, &verdict.class));
             }
-            if *count < quota(case.kind, verdict.document.number) {
+            if *count < quota(case.kind, &verdict) {
                 *count += 1;
                 self.keep_answered(&case, &verdict);
             }
@@ -182,8 +182,9 @@ impl Row {
 }
 
 /// How many of a kind, a number and a class are taken.
-fn quota(kind: u64, number: u64) -> u64 {
-    match (kind, number) {
+fn quota(kind: u64, verdict: &Verdict) -> u64 {
+    match (kind, verdict.document.number) {
+        (2 | 3, 0) if verdict.side == Side::Left => 100,
         (2 | 3, 0) => 300,
         (4 | 5, 0) => 120,
         (1 | 6 | 7, 0) => 50,

@@ -1,5 +1,6 @@
-//! The original beside document 01 on one case: they agree, or they differ in a class that
-//! docs/DIFFERENCES.md names, or they differ in none of those, which must never be seen.
+//! The original beside the rules on one case: they agree, or they differ in a class that
+//! docs/DIFFERENCES.md names, or they differ in none of those, which must never be seen. A case that
+//! the original no longer decides is not put to it.
 
 use crate::reasons;
 use model::answer as document;
@@ -8,10 +9,12 @@ use runner::{answer as original, Cause, Change, Outcome};
 
 #[derive(Clone, Copy, Debug, PartialEq, Eq, PartialOrd, Ord)]
 pub enum Side {
-    /// The original answers as document 01 does.
+    /// The original answers as the rules do.
     Both,
     /// Document 01 alone rules.
     DocumentAlone,
+    /// Document 02 leaves the case to the model.
+    Left,
     /// A difference that no class explains.
     Unlisted,
 }
@@ -21,13 +24,19 @@ pub struct Verdict {
     /// What the case shows, as docs/DIFFERENCES.md names it; empty where nothing stands out.
     pub class: String,
     pub document: Answer,
-    pub original: Outcome,
+    /// None where the case is left to the model.
+    pub original: Option<Outcome>,
 }
 
 pub fn verdict(case: &Case) -> Verdict {
-    let (document, original) = (document(case), original(case));
+    let document = document(case);
+    if let Some(left) = case.left_to_model() {
+        let class = format!("{} {}: {left}", case.form().name, document.number);
+        return Verdict { side: Side::Left, class, document, original: None };
+    }
+    let original = original(case);
     let (side, class) = classed(case, &document, &original);
-    Verdict { side, class, document, original }
+    Verdict { side, class, document, original: Some(original) }
 }
 
 /// The side that rules, and the class.
@@ -76,7 +85,7 @@ fn differs(case: &Case, original: &Answer, document: &Answer) -> (Side, String) 
         (6, 0, 0) if reasons::only_paid_out(original, document) => {
             format!("{name}: the vaults pay the creators")
         }
-        (kind, was, is) => return (Side::Unlisted, format!("kind {kind}: the Rust {was}, document 01 {is}")),
+        (kind, was, is) => return (Side::Unlisted, format!("kind {kind}: the Rust {was}, the rules {is}")),
     };
     (Side::DocumentAlone, class)
 }

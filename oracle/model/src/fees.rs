@@ -1,6 +1,6 @@
-//! Document 01, 'math.rs, then fees.rs': rates are in millionths.
+//! Document 01, 'math.rs, then fees.rs', with document 02 (a): rates are in millionths.
 
-use crate::whole::{divided_up, whole, Whole};
+use crate::whole::{divided_up, whole, Whole, ZERO};
 
 pub const MILLION: u64 = 1_000_000;
 
@@ -14,10 +14,14 @@ pub fn part_rounded_down(amount: Whole, rate: u64) -> Whole {
     amount * whole(rate) / whole(MILLION)
 }
 
-/// The creator's part of a total fee, rounded down; none where both rates are 0.
-pub fn split_creator_fee(total: Whole, trade: u64, creator: u64) -> Option<Whole> {
+/// The creator's part of a total fee, rounded down; 0 where both rates are 0.
+pub fn split_creator_fee(total: Whole, trade: u64, creator: u64) -> Whole {
     let rates = whole(trade) + whole(creator);
-    (rates != whole(0)).then(|| total * whole(creator) / rates)
+    if rates == ZERO {
+        ZERO
+    } else {
+        total * whole(creator) / rates
+    }
 }
 
 /// The amount of which this is left after the fee; none where the fee takes everything.

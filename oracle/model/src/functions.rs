@@ -58,7 +58,7 @@ fn fee(kind: u64, words: &[u64]) -> Values {
         11 | 12 | 14 => Some(part_rounded_down(amount, rate)),
         15 => {
             word(whole(rate) + whole(words[2]), MATH_OVERFLOW)?;
-            split_creator_fee(amount, rate, words[2])
+            Some(split_creator_fee(amount, rate, words[2]))
         }
         16 => calculate_pre_fee_amount(amount, rate),
         _ => {

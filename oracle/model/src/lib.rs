@@ -1,5 +1,5 @@
-//! Document 01 in whole numbers: every call and every function alone, written from its
-//! text and in its order. It knows nothing of the original.
+//! The rules, document 01 with document 02 (a), in whole numbers: every call and every function
+//! alone, written from their text and in its order. It knows nothing of the original.
 
 pub mod calls;
 mod curve;
@@ -11,7 +11,7 @@ mod whole;
 
 use record::{call_answer, Answer, Call, Case, Receipt, Ring, State, RING_ENTRIES};
 
-/// What document 01 answers to a case.
+/// What the rules answer to a case.
 pub fn answer(case: &Case) -> Answer {
     match case.call() {
         Some(call) => {

@@ -62,7 +62,6 @@ impl Port {
 fn open(port: &mut Port, opening: &Opening) -> u64 {
     let Opening { amounts: [amount_0, amount_1], fee_model, enabled, open_time, rates } = *opening;
     let Rates { trade, protocol, fund, creator, share } = rates;
-    let words =
-        [amount_0, amount_1, fee_model, enabled, open_time, trade, protocol, fund, creator, share];
+    let words = [amount_0, amount_1, fee_model, enabled, open_time, trade, protocol, fund, creator, share];
     plain::open(&mut port.pool, &mut port.ring, &mut port.receipt, &words)
 }

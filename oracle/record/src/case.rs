@@ -1,9 +1,9 @@
 //! One call, or one function alone, with all that it takes: a line of decimal numbers.
 
-use crate::call::{Call, Receipt};
+use crate::call::{Call, Receipt, RECEIPT_COLUMNS};
 use crate::form::{form, Form, On};
-use crate::pool::{Pool, State};
-use crate::ring::{entry_at, filled_ring, RING_ENTRIES};
+use crate::pool::{Pool, State, POOL_COLUMNS};
+use crate::ring::{entry_at, filled_ring, ENTRY_COLUMNS, RING_ENTRIES};
 
 /// The columns are what the form names: pool, entry, arguments.
 #[derive(Clone, Debug, PartialEq, Eq)]
@@ -41,18 +41,22 @@ impl Case {
         &self.columns[self.form().columns_before()..]
     }
 
-    /// The state that a call acts on; a case without a pool acts on zeros.
+    /// The pool that a call acts on; a case without a pool acts on zeros.
+    pub fn pool(&self) -> Pool {
+        match self.form().on {
+            On::Nothing => Pool::default(),
+            _ => Pool::from_words(&self.columns[..21]).expect("a case holds a whole pool"),
+        }
+    }
+
+    /// The pool with its ring, of which a case has at most the entry at the index.
     pub fn state(&self) -> State {
-        let (pool, index_entry) = match self.form().on {
-            On::Nothing => (Some(Pool::default()), [0; 5]),
-            On::Pool => (Pool::from_words(&self.columns[..21]), [0; 5]),
-            On::PoolAndEntry => {
-                let entry = self.columns[21..26].try_into().expect("an entry has five words");
-                (Pool::from_words(&self.columns[..21]), entry)
-            }
+        let entry = match self.form().on {
+            On::PoolAndEntry => self.columns[21..26].try_into().expect("an entry has five words"),
+            _ => [0; 5],
         };
-        let pool = pool.expect("a case holds a whole pool");
-        State { pool, ring: filled_ring(pool.head.index, index_entry) }
+        let pool = self.pool();
+        State { pool, ring: filled_ring(pool.head.index, entry) }
     }
 
     pub fn call(&self) -> Option<Call> {
@@ -85,6 +89,22 @@ impl Case {
             && !(self.kind == 22 && self.columns[4] > 1)
             && !(matches!(self.kind, 30 | 36) && self.columns[0] > 1)
             && self.entry_is_in_ring()
+    }
+
+    /// Whether an answer to this case has these numbers in these columns.
+    pub fn shows(&self, answer: &Answer, columns: &[(&str, u64)]) -> bool {
+        columns.iter().all(|(name, number)| self.column(answer, name) == Some(*number))
+    }
+
+    fn column(&self, answer: &Answer, name: &str) -> Option<u64> {
+        let form = self.form();
+        let at = if form.is_call() {
+            let mut columns = RECEIPT_COLUMNS.iter().chain(&POOL_COLUMNS).chain(&ENTRY_COLUMNS);
+            columns.position(|column| *column == name)
+        } else {
+            form.values.iter().position(|column| *column == name)
+        };
+        answer.values.get(at?).copied()
     }
 
     fn entry_is_in_ring(&self) -> bool {

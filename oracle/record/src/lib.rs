@@ -1,14 +1,16 @@
 //! The pool as numbers, the calls on it and their answers, and the lines that carry them.
-//! Both the original and the model of document 01 are asked and answer in these.
+//! Both the original and the model of the rules are asked and answer in these.
 
 mod call;
 mod case;
 mod form;
+mod left;
 mod pool;
 mod ring;
 
 pub use call::{Call, Opening, Receipt, Swap, RECEIPT_COLUMNS};
 pub use case::{call_answer, Answer, Case};
 pub use form::{form, Form, On, FORMS};
+pub use left::Left;
 pub use pool::{Pool, Rates, RingHead, State, POOL_COLUMNS};
 pub use ring::{entry_at, filled_ring, only_newest_written, Entry, Ring, ENTRY_COLUMNS, RING_ENTRIES};

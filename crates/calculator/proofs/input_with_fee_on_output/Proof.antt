@@ -1,8 +1,7 @@
 -- `calculator::input_with_fee_on_output` meets its contract: each fee is at most what it is taken of.
 -- Assumes nothing.
-use mathlib.Core.Path.{ap, _∙_}
+use mathlib.Core.Path.{_∙_}
 use native.Mathlib.Omega.{arith}
-use Rattle.calculator.specs.declared.SwapAnswer.the-variants.{Swapped}
 use Rattle.fees.specs.Fees.{feeUp}
 use Rattle.calculator.proofs.Swaps.{fee-le, input-on-output}
 use borrow.Author.Needs.{needs}
@@ -33,7 +32,7 @@ returns c =
     let p = c .before in
     let o = p .before in
     let t = o .before in
-    ap Swapped (c .charge .ensures)
+    c .charge .ensures
     ∙ input-on-output _ _ _ _ _ _ _ _ (t .share-ceil .ensures) (o .swap-out .ensures) (p .share-ceil2 .ensures)
 
 pub input-with-fee-on-output-spec : {M : Type 1} → statement M

@@ -1,6 +1,6 @@
 -- `calculator::output_with_fee_on_output` meets its contract, by the three quotients.
 -- Assumes nothing.
-use mathlib.Core.Path.{_≡_, refl, _∙_}
+use mathlib.Core.Path.{_≡_, _∙_}
 use mathlib.Core.Bool.{false}
 use Prim.Native.Nat.{_<_}
 use native.Mathlib.Omega.{arith}
@@ -58,7 +58,7 @@ asked :
 asked c = told-fits _ _ _ (asking (c .before .before)) (c .asked .given .1)
 
 returns-3 : tie.Need-returns-3
-returns-3 c = asked-past _ _ _ _ _ _ (there (c .before)) refl (told-past _ _ (asking (c .before)) (c .match2 .keys2))
+returns-3 c = asked-past _ _ _ _ _ _ (there (c .before)) (told-past _ _ (asking (c .before)) (c .match2 .keys2))
 
 pre-fee-requires-2 : tie.Need-pre-fee-requires-2
 pre-fee-requires-2 c κs = search needs
@@ -76,7 +76,7 @@ returns-4 : tie.Need-returns-4
 unfolding withFees charged
 returns-4 c =
     let k = c .before .before .before in
-    input-past _ _ _ _ _ _ (there (k .before .before)) refl _ (asked k) (told-past _ _ (c .before .pre-fee2 .ensures) (c .match3 .keys2))
+    input-past _ _ _ _ _ _ (there (k .before .before)) _ (asked k) (told-past _ _ (c .before .pre-fee2 .ensures) (c .match3 .keys2))
 
 sub-charge : tie.Need-sub-charge
 sub-charge c = rw (input (c .before) .0) (pre-fee-ge _ _ (omega arith))
@@ -94,7 +94,7 @@ returns-5 c =
     let i = c .before .before in
     let k = i .before .before .before .before in
     let m = k .before .before in
-    swapped _ _ _ _ _ _ (there m) refl _ (asked k) _
+    swapped _ _ _ _ _ _ (there m) _ (asked k) _
     (c .charge .ensures ∙ charged-on-output (start m .args .rates) _ _ _ _ _ (input i .0) (curve (m .before .before .before) .0)) (input i .1)
 
 pub output-with-fee-on-output-spec : {M : Type 1} → statement M

@@ -1,10 +1,11 @@
--- `calculator::swap_base_input` meets its contract: the rate limits, the net, and the stage for the side of the fee.
+-- `calculator::swap_base_input` meets its contract: the rate limits, the net, and the result for the side of the fee.
 -- Assumes nothing.
-use mathlib.Core.Path.{_∙_}
+use mathlib.Core.Path.{ap, _∙_}
 use native.Mathlib.Omega.{arith}
-use Rattle.refusal.proofs.Stops.{turns, first-stage, outcome-at, outcome-past, outcome-stop}
+use Rattle.refusal.proofs.Stops.{turns, first-stage, outcome-at, outcome-all, outcome-stop}
 use Rattle.calculator.specs.Calculator.{inputAnswer}
-use Rattle.calculator.specs.Stages.{Limited, inputStage}
+use Rattle.calculator.specs.declared.SwapAnswer.the-variants.{Swapped}
+use Rattle.calculator.specs.Stages.{Limited}
 use Rattle.calculator.proofs.Swaps.{limited, past-limits}
 use borrow.Author.Needs.{needs}
 use Rattle.calculator.proofs.swap_base_input.Statement.{statement}
@@ -32,18 +33,18 @@ input-with-fee-on-output-requires : tie.Need-input-with-fee-on-output-requires
 input-with-fee-on-output-requires c κs = (within (c .before .before), omega arith)
 
 returns-3 : tie.Need-returns-3
-unfolding inputAnswer inputStage
+unfolding inputAnswer
 returns-3 c =
     let s = c .before in
     rw (s .if3 .taken)
-    (c .input-with-fee-on-input .ensures ∙ outcome-past _ _ _ _ (omega (arith, turns)) ∙ past-limits _ _ (within (s .before .before)) _ _ _)
+    (ap Swapped (c .input-with-fee-on-input .ensures) ∙ outcome-all _ _ _ (omega (arith, turns)) ∙ past-limits _ _ (within (s .before .before)) _ _ _)
 
 returns-4 : tie.Need-returns-4
-unfolding inputAnswer inputStage
+unfolding inputAnswer
 returns-4 c =
     let s = c .before in
     rw (s .if3 .left)
-    (c .input-with-fee-on-output .ensures ∙ outcome-past _ _ _ _ (omega (arith, turns)) ∙ past-limits _ _ (within (s .before .before)) _ _ _)
+    (ap Swapped (c .input-with-fee-on-output .ensures) ∙ outcome-all _ _ _ (omega (arith, turns)) ∙ past-limits _ _ (within (s .before .before)) _ _ _)
 
 pub swap-base-input-spec : {M : Type 1} → statement M
 swap-base-input-spec =

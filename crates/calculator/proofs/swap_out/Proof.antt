@@ -4,7 +4,7 @@ use mathlib.Core.Path.{ap, _∙_}
 use Prim.Native.Nat.{ℕ, _+_, _/_}
 use native.Mathlib.Omega.{arith}
 use Rattle.curve.specs.ConstantProduct.{swapOut}
-use Rattle.calculator.proofs.Swaps.{high-below}
+use Rattle.math.proofs.Curve.{high-below}
 use borrow.Author.Needs.{needs}
 use Rattle.calculator.proofs.swap_out.Statement.{statement}
 use Rattle.calculator.proofs.swap_out.Tie as tie

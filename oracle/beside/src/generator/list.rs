@@ -1,5 +1,5 @@
 //! Lists of calls from openings, in any order, that fill and empty the pool. The next call
-//! gets the state that document 01 gives after the one before.
+//! gets the state that the rules give after the one before.
 
 use super::{arguments, hand};
 use crate::random::Random;

@@ -1,4 +1,4 @@
-//! Swap by input and swap by output.
+//! Swap by input and swap by output, with document 02 (a): no swap answers 4.
 
 use super::{nets, rate_limits, status_bit, sum_or, Accepted};
 use crate::curve::{input_for, output_for};
@@ -81,10 +81,9 @@ impl Terms {
     }
 
     /// Splits a total fee on the input into trade and creator fee.
-    fn split(&self, total: Whole) -> Result<(Whole, Whole), u64> {
-        let creator_fee =
-            split_creator_fee(total, self.trade_rate, self.creator_rate).ok_or(ZERO_TRADING_TOKENS)?;
-        Ok((total - creator_fee, creator_fee))
+    fn split(&self, total: Whole) -> (Whole, Whole) {
+        let creator_fee = split_creator_fee(total, self.trade_rate, self.creator_rate);
+        (total - creator_fee, creator_fee)
     }
 
     fn quote_input(&self, paid_in: Whole) -> Result<Quote, u64> {
@@ -94,7 +93,7 @@ impl Terms {
         };
         if self.fee_on_input {
             let total = fee_rounded_up(paid_in, self.trade_rate + self.creator_rate);
-            let (trade_fee, creator_fee) = self.split(total)?;
+            let (trade_fee, creator_fee) = self.split(total);
             Ok(Quote { paid_in, paid_out: curve(total)?, trade_fee, creator_fee })
         } else {
             let trade_fee = fee_rounded_up(paid_in, self.trade_rate);
@@ -106,16 +105,18 @@ impl Terms {
 
     fn quote_output(&self, paid_out: Whole) -> Result<Quote, u64> {
         let curve = |output: Whole| input_for(output, self.net_in(), self.net_out()).ok_or(PANIC);
-        let before_fee = |amount, rate| calculate_pre_fee_amount(amount, rate).ok_or(ZERO_TRADING_TOKENS);
+        let before_fee = |amount, rate| {
+            calculate_pre_fee_amount(amount, rate).expect("within the limits no fee takes everything")
+        };
         let quote = if self.fee_on_input {
             let input = curve(paid_out)?;
-            let paid_in = before_fee(input, self.trade_rate + self.creator_rate)?;
-            let (trade_fee, creator_fee) = self.split(paid_in - input)?;
+            let paid_in = before_fee(input, self.trade_rate + self.creator_rate);
+            let (trade_fee, creator_fee) = self.split(paid_in - input);
             Quote { paid_in, paid_out, trade_fee, creator_fee }
         } else {
-            let output = before_fee(paid_out, self.creator_rate)?;
+            let output = before_fee(paid_out, self.creator_rate);
             let input = curve(output)?;
-            let paid_in = before_fee(input, self.trade_rate)?;
+            let paid_in = before_fee(input, self.trade_rate);
             Quote { paid_in, paid_out, trade_fee: paid_in - input, creator_fee: output - paid_out }
         };
         refuse_if(quote.paid_in.as_u64().is_none(), PANIC)?;
