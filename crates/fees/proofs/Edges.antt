@@ -1,4 +1,4 @@
--- Document 01's edges that speak of the fees alone, by computation.
+-- Document 01's edges that speak of the fees alone, with document 02 (a), by computation.
 -- Assumes nothing.
 use mathlib.Core.Path.{_≡_, refl}
 use Rattle.refusal.specs.Tests.{outcome}
