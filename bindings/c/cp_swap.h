@@ -101,7 +101,7 @@ enum {
 /* ---- refusals */
 enum {
     CP_SWAP_ACCEPTED = 0,
-    CP_SWAP_NOT_APPROVED = 1,
+    CP_SWAP_NOT_APPROVED = 1, /* closed, or a swap before the open time, whatever the amount */
     CP_SWAP_EXCEEDED_SLIPPAGE = 2,
     CP_SWAP_INVALID_INPUT = 3, /* also: a record whose enabled or ring-used is neither 0 nor 1 */
     CP_SWAP_ZERO_TRADING_TOKENS = 4, /* deposits and withdrawals; no swap answers it */
@@ -110,7 +110,7 @@ enum {
     CP_SWAP_INSUFFICIENT_VAULT = 7,
     CP_SWAP_MATH_OVERFLOW = 8,
     CP_SWAP_INVALID_FEE_MODEL = 9,
-    CP_SWAP_REQUIRE_VIOLATED = 10,
+    CP_SWAP_REQUIRE_VIOLATED = 10, /* an amount is 0, or LP above the owner's */
     CP_SWAP_PANIC = 11, /* the original program would have panicked */
     CP_SWAP_UNREADABLE_ROW = 12,
     CP_SWAP_INIT_LP_AMOUNT_TOO_LESS = 13

@@ -103,8 +103,8 @@ impl Pool {
     }
 
     pub fn deposit(&mut self, lp: u64, maximums: [u64; 2]) -> Amounts {
-        refuse_if(lp == 0, REQUIRE)?;
         refuse_if(self.is_closed(0), NOT_APPROVED)?;
+        refuse_if(lp == 0, REQUIRE)?;
         let amounts = self.tokens_for(lp, self.nets()?, true)?;
         refuse_if(amounts[0] > maximums[0] || amounts[1] > maximums[1], SLIPPAGE)?;
         let vault = |t: usize| self.vaults[t].checked_add(amounts[t]).ok_or(OVERFLOW);
@@ -115,8 +115,8 @@ impl Pool {
     }
 
     pub fn withdraw(&mut self, lp: u64, owned: u64, minimums: [u64; 2]) -> Amounts {
-        refuse_if(lp == 0 || lp > owned, REQUIRE)?;
         refuse_if(self.is_closed(1), NOT_APPROVED)?;
+        refuse_if(lp == 0 || lp > owned, REQUIRE)?;
         let nets = self.nets()?;
         let whole = self.tokens_for(lp, nets, false)?;
         let amounts = [whole[0].min(nets[0]), whole[1].min(nets[1])];

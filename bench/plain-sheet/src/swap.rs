@@ -33,10 +33,7 @@ fn before_fee(amount: u128, rate: u64) -> Result<u128, u64> {
 
 impl Pool {
     pub fn swap_by_input(&mut self, direction: u64, amount: u64, minimum: u64, clock: u64) -> Amounts {
-        self.rates.check_limits()?;
-        refuse_if(self.is_closed(2) || clock < self.open_time, NOT_APPROVED)?;
-        refuse_if(amount == 0, REQUIRE)?;
-        let terms = self.terms(direction)?;
+        let terms = self.terms(direction, amount, clock)?;
         let quote = terms.by_input(amount);
         refuse_if(quote.paid_out == 0, REQUIRE)?;
         refuse_if(quote.paid_out < minimum, SLIPPAGE)?;
@@ -44,16 +41,17 @@ impl Pool {
     }
 
     pub fn swap_by_output(&mut self, direction: u64, amount: u64, maximum: u64, clock: u64) -> Amounts {
-        self.rates.check_limits()?;
-        refuse_if(amount == 0, REQUIRE)?;
-        refuse_if(self.is_closed(2) || clock < self.open_time, NOT_APPROVED)?;
-        let terms = self.terms(direction)?;
+        let terms = self.terms(direction, amount, clock)?;
         let quote = terms.by_output(amount)?;
         refuse_if(quote.paid_in > maximum, SLIPPAGE)?;
         self.book(&terms, &quote, clock)
     }
 
-    fn terms(&self, direction: u64) -> Result<Terms, u64> {
+    /// The tests that both swaps begin with.
+    fn terms(&self, direction: u64, amount: u64, clock: u64) -> Result<Terms, u64> {
+        self.rates.check_limits()?;
+        refuse_if(self.is_closed(2) || clock < self.open_time, NOT_APPROVED)?;
+        refuse_if(amount == 0, REQUIRE)?;
         refuse_if(direction > 1, INVALID_VAULT)?;
         let nets = self.nets()?;
         refuse_if(nets.contains(&0), PANIC)?;

@@ -7,7 +7,7 @@ use std::fmt;
 #[derive(Clone, Copy, Debug, PartialEq, Eq, Hash)]
 #[repr(u64)]
 pub enum Refusal {
-    /// The pool is closed for this call, or not open yet.
+    /// The pool is closed for this call, or, for a swap, not open yet, whatever the amount.
     NotApproved = 1,
     /// An amount is beyond the caller's limit.
     ExceededSlippage = 2,

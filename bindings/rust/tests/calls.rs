@@ -1,6 +1,6 @@
 //! Each call once accepted and once refused, on the pool of the rules' worked example.
 
-use cp_swap::{Direction, FeeModel, Opening, Pool, Rates, Receipt, Refusal, Ring, StatusBit};
+use cp_swap::{Answer, Direction, FeeModel, Opening, Pool, Rates, Receipt, Refusal, Ring, StatusBit};
 
 const RATES: Rates = Rates { trade: 2_500, protocol: 120_000, fund: 40_000, creator: 0, share: 0 };
 const MOST: [u64; 2] = [u64::MAX; 2];
@@ -184,4 +184,33 @@ fn a_set_bit_closes() {
     assert_eq!([swap, deposit, withdrawal], [Err(Refusal::NotApproved); 3]);
     pool.set_status(&mut ring, StatusBit::Swaps, false).expect("the status is accepted");
     assert!(pool.swap_base_input(&mut ring, Direction::ZeroForOne, 10_000, 1, 100).is_ok());
+}
+
+/// Asked for nothing: both swaps, a deposit, and withdrawals of nothing and of more than the owner's.
+fn for_nothing(pool: &mut Pool, ring: &mut Ring) -> [Answer; 5] {
+    [
+        pool.swap_base_input(ring, Direction::ZeroForOne, 0, 1, 100),
+        pool.swap_base_output(ring, Direction::ZeroForOne, 0, u64::MAX, 100),
+        pool.deposit(ring, 0, MOST),
+        pool.withdraw(ring, 0, 3, [0, 0]),
+        pool.withdraw(ring, 4, 3, [0, 0]),
+    ]
+}
+
+#[test]
+fn closed_comes_before_nothing() {
+    let (mut pool, mut ring) = opened();
+    assert_eq!(for_nothing(&mut pool, &mut ring), [Err(Refusal::RequireViolated); 5]);
+    for bit in [StatusBit::Deposits, StatusBit::Withdrawals, StatusBit::Swaps] {
+        pool.set_status(&mut ring, bit, true).expect("the status is accepted");
+    }
+    assert_eq!(for_nothing(&mut pool, &mut ring), [Err(Refusal::NotApproved); 5]);
+}
+
+#[test]
+fn only_swaps_wait_for_the_open_time() {
+    let (mut pool, mut ring) = opened_with(Opening { open_time: 101, ..opening() });
+    let [by_input, by_output, liquidity @ ..] = for_nothing(&mut pool, &mut ring);
+    assert_eq!([by_input, by_output], [Err(Refusal::NotApproved); 2]);
+    assert_eq!(liquidity, [Err(Refusal::RequireViolated); 3]);
 }

@@ -5,11 +5,12 @@ use mathlib.Core.Path.{_≡_, refl, ap, _∙_}
 use mathlib.Core.Bool.{Bool, true, false, _&&_}
 use mathlib.Core.List.{[], _∷_}
 use lib.Dec.{eqb, leb}
-use Rattle.refusal.specs.Tests.{Tests, outcome}
+use Rattle.refusal.specs.Tests.{Tests, _then_, outcome}
 use Rattle.refusal.proofs.Stops.{numbered, outcome-map}
 use Rattle.fees.specs.Fees.{feeDown}
-use Rattle.rates.specs.Rates.{onInput}
+use Rattle.rates.specs.Rates.{rateLimits, onInput}
 use Rattle.calculator.specs.declared.SwapResult.{SwapResult}
+use Rattle.accounting.specs.Counters.{counterTests}
 use Rattle.accounting.specs.Booking.{creatorToken, booked}
 use Rattle.oracle.specs.Ring.{newest, price}
 use Rattle.receipt.specs.Kind.{Opening as kind}
@@ -159,6 +160,7 @@ decides s made ts bad good e r n l z = record {
 
 pub call-decides : (s : State) (c : Call) → Decides s (decision s c) (next s c)
 unfolding next decision refused refusedBooks refusedSwap decisionOf swapBaseInput swapBaseOutput swapAfter inputTests outputTests lastTests acceptedSwap swapReceipt
+    rateLimits counterTests _then_
     deposit depositAfter depositAt depositTests withdraw withdrawAfter withdrawAt withdrawTests
     settlement settlementAfter settlementAt settlementTests settlementReceipt setStatus statusAfter statusTests amounts
 call-decides s (SwapBaseInput direction amount minimum clock) = decides s (λ a. doneOf (s .entries) (swappedIn (s .pool) a)) _ _ _ refl refl refl refl refl

@@ -6,11 +6,13 @@ use mathlib.Core.Bool.{Bool, true, false, cond}
 use native.Mathlib.Omega.{arith}
 use borrow.Author.Tests.{ltb-false, leb-false}
 use lib.Dec.{ltb, eqb}
+use Rattle.refusal.specs.Tests.{_then_}
 use Rattle.refusal.proofs.Stops.{Passed}
 use Rattle.fees.specs.Fees.{Million}
 use Rattle.rates.specs.declared.Terms.{Terms}
-use Rattle.rates.specs.Rates.{HighestFeeRate, creatorRate}
+use Rattle.rates.specs.Rates.{HighestFeeRate, rateLimits, creatorRate}
 use Rattle.calculator.proofs.FairSwaps.{Fair, input-fair, output-fair}
+use Rattle.accounting.specs.Counters.{counterTests}
 use Rattle.quotes.specs.Quotes.{netIn, netOut}
 use Rattle.swap.specs.Swap.{inputTests, outputTests}
 use Rattle.calls.specs.Next.{State}
@@ -32,7 +34,7 @@ FairAt byInput s direction amount =
 pub swap-fair :
     (byInput : Bool) (s : State) (direction amount limit clock : ℕ) → Passed (swapDecision byInput s direction amount limit clock .tests)
     → FairAt byInput s direction amount
-unfolding inputTests outputTests
+unfolding inputTests outputTests rateLimits counterTests _then_
 swap-fair true s direction amount limit clock t =
     let r = s .pool .terms .rates in
     let trade = rates-limited (s .pool .terms) (t .0) in

@@ -6,6 +6,7 @@ use Rattle.fees.specs.Fees.{feeUp, feeDown, split, preFee}
 use Rattle.curve.specs.ConstantProduct.{swapOut, swapIn, lpAmount}
 use Rattle.rates.specs.Rates.{rateLimits, rateTests, onInput}
 use Rattle.calculator.specs.Calculator.{swapBaseInput as inputWithFees, curveOutput, curveInput, charged, withFees, swapBaseOutput as outputWithFees}
+use Rattle.accounting.specs.Counters.{counterTests}
 use Rattle.accounting.specs.Booking.{booked}
 use Rattle.oracle.specs.Ring.{entryAt, withEntry, price, acceptedUpdate}
 use Rattle.receipt.specs.Receipt.{refusal, refusedBooks, amounts}
@@ -21,7 +22,7 @@ use Rattle.calls.specs.Next.{next}
 -- opens every definition of document 01 at once
 unfoldable pub all : Unit {0}
 unfolding rootAt root _then_ outcome feeUp feeDown split preFee swapOut swapIn lpAmount onInput inputWithFees curveOutput curveInput charged withFees outputWithFees
-    booked entryAt withEntry price acceptedUpdate refusal refusedBooks amounts rateLimits rateTests flagged statusTests statusAfter
+    booked entryAt withEntry price acceptedUpdate refusal refusedBooks amounts rateLimits rateTests counterTests flagged statusTests statusAfter
     settlementTests settledCounters settlementReceipt settlementAt settlementAfter depositTests depositAt depositAfter withdrawTests withdrawAt withdrawAfter
     openingTests refusedOpening openingAfter lastTests inputTests outputTests refusedSwap paidBooks swapReceipt acceptedSwap swapAfter
     refused zeroPool zeroEntries opening decisionOf swapBaseInput swapBaseOutput deposit withdraw settlement setStatus next

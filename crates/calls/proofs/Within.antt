@@ -10,12 +10,13 @@ use native.Mathlib.Nat.{mul-le-mul, min-le-left, le-trans}
 use borrow.Author.Tests.{ltb-false, leb-true, eqb-true, eqb-false}
 use lib.Dec.{eqb, leb}
 use Rattle.root.proofs.WholeRoot.{root-fits}
-use Rattle.refusal.specs.Tests.{Tests, U64, past, first}
+use Rattle.refusal.specs.Tests.{Tests, U64, _then_, past, first}
 use Rattle.refusal.proofs.Stops.{Passed, outcome-elim}
+use Rattle.rates.specs.Rates.{rateLimits}
 use Rattle.calculator.specs.declared.SwapResult.{SwapResult}
 use Rattle.accounting.specs.declared.FeeCounters.{FeeCounters}
 use Rattle.accounting.specs.declared.Books.{Books}
-use Rattle.accounting.specs.Counters.{ofToken}
+use Rattle.accounting.specs.Counters.{ofToken, counterTests}
 use Rattle.receipt.specs.declared.Receipt.{Receipt}
 use Rattle.receipt.specs.Receipt.{refusal, amounts}
 use Rattle.settlement.specs.Settlement.{settlementTests, settlementReceipt}
@@ -87,7 +88,7 @@ module _ (swap : SwapResult) (b : Books) (fits : BooksFit b) where
 swap-fits :
     (byInput : Bool) (s : State) (direction amount limit clock : ℕ) → BooksFit (s .pool .books)
     → Passed (swapDecision byInput s direction amount limit clock .tests) → DoneFits (swapDecision byInput s direction amount limit clock .accepted)
-unfolding acceptedSwap inputTests outputTests lastTests
+unfolding acceptedSwap inputTests outputTests lastTests rateLimits counterTests _then_
 swap-fits byInput s direction amount limit clock h t =
     let fair = swap-fair byInput s direction amount limit clock t in
     let room = has-room byInput t in

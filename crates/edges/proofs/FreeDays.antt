@@ -8,12 +8,13 @@ use native.Mathlib.Nat.{mul-zero, zero-mul, sub-self, sub-zero}
 use native.Mathlib.Omega.{arith}
 use lib.Dec.{eqb}
 use borrow.Author.Tests.{eqb-false}
-use Rattle.refusal.specs.Tests.{Tests, outcome}
+use Rattle.refusal.specs.Tests.{Tests, _then_, outcome}
 use Rattle.rates.specs.declared.Rates.{Rates}
-use Rattle.rates.specs.Rates.{onInput}
+use Rattle.rates.specs.Rates.{rateLimits, onInput}
 use Rattle.fees.specs.Fees.{feeUp, feeDown, split, preFee}
 use Rattle.curve.specs.ConstantProduct.{swapOut, swapIn}
 use Rattle.calculator.specs.Calculator.{charged, swapBaseInput, curveOutput, curveInput, withFees, swapBaseOutput}
+use Rattle.accounting.specs.Counters.{counterTests}
 use Rattle.receipt.specs.Receipt.{refusal}
 use Rattle.swap.specs.declared.SwapAfter.{SwapAfter}
 use Rattle.swap.specs.Swap.{lastTests, inputTests, outputTests, refusedSwap, swapReceipt, acceptedSwap, swapAfter}
@@ -89,6 +90,6 @@ never4 refused accepted r a (t ∷ ts) l e = go (t .0) (eqb (t .1) 4) refl l e (
     go false false f l e rest = rest l e
 
 pub no-swap-answers-4 : NoSwapAnswers4
-unfolding swapAfter inputTests outputTests lastTests refusedSwap refusal acceptedSwap swapReceipt
+unfolding swapAfter inputTests outputTests lastTests rateLimits counterTests _then_ refusedSwap refusal acceptedSwap swapReceipt
 no-swap-answers-4 true t status b ring e direction amount limit clock = never4 _ _ (λ n. refl) refl _ refl
 no-swap-answers-4 false t status b ring e direction amount limit clock = never4 _ _ (λ n. refl) refl _ refl

@@ -1,3 +1,4 @@
+pub mod Closed
 pub mod Edges
 pub mod Example
 pub mod FreeDays

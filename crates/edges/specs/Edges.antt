@@ -1,4 +1,5 @@
--- Document 01, 'Edges': the starred ones and the worked day, with what document 02 (a) makes of one, in one table. Each row is an opening, what is asked of its pool, and what must come out.
+-- Document 01, 'Edges': the starred ones and the worked day, with what document 02 (a) makes of one, and the answers that 02 (b) changes, in one
+-- table. Each row is an opening, what is asked of its pool, and what must come out.
 use Prim.Native.Nat.{ℕ, _+_}
 use mathlib.Core.Path.{_≡_}
 use mathlib.Core.List.{List, [], _∷_}
@@ -9,12 +10,14 @@ use Rattle.pool.specs.State.{Done, net0, net1}
 use Rattle.opening.specs.declared.Opening.{Opening}
 use Rattle.pool.specs.Calls.{opening}
 use Rattle.calls.specs.declared.Call.{Call}
-use Rattle.calls.specs.declared.Call.the-variants.{SwapBaseInput, SwapBaseOutput, Deposit, Withdraw}
+use Rattle.calls.specs.declared.Call.the-variants.{SwapBaseInput, SwapBaseOutput, Deposit, Withdraw, SetStatus}
 use Rattle.calls.specs.Next.{left, next}
 
 pub data Asked : Type 0 where
   itself : Asked
   call : Call → Asked
+  -- a call once this bit of the status is set
+  closed : ℕ → Call → Asked
 
 -- what document 01 speaks of
 pub data Field : Type 0 where
@@ -41,6 +44,7 @@ pub record Edge : Type 0 where
 abbrev pub answer : Opening → Asked → Done
 answer o itself = opening o
 answer o (call c) = next (left (opening o)) c
+answer o (closed bit c) = next (left (next (left (opening o)) (SetStatus bit 1))) c
 
 abbrev pub shown : Field → Done → ℕ
 shown number d = d .after .receipt .number
@@ -89,6 +93,10 @@ day model enabled rates = record { amount0 = 1000000; amount1 = 4000000; model =
 abbrev worked : Opening
 worked = day 0 0 (dayRates 0)
 
+-- the worked opening, but open for swaps from this clock on
+abbrev openFrom : ℕ → Opening
+openFrom time = record { amount0 = 1000000; amount1 = 4000000; model = 0; enabled = 0; «open_time» = time; rates = dayRates 0 }
+
 abbrev square : ℕ → Opening
 square amount = record { amount0 = amount; amount1 = amount; model = 0; enabled = 0; «open_time» = 0; rates = dayRates 0 }
 
@@ -128,6 +136,12 @@ edges =
     ((number, 0) ∷ (paidIn0, 10000) ∷ (paidOut1, 39603) ∷ (tradeFee, 0) ∷ (protocolFee, 0) ∷ (fundFee, 0) ∷ (creatorFee, 0) ∷ (netAfter0, 1010000) ∷ (netAfter1, 3960397) ∷ [])
     ∷ edge (day 0 0 (tradeAndCreator 0 0)) (call (SwapBaseOutput 0 39603 10000 100))
     ((number, 0) ∷ (paidIn0, 10000) ∷ (paidOut1, 39603) ∷ (tradeFee, 0) ∷ (protocolFee, 0) ∷ (fundFee, 0) ∷ (creatorFee, 0) ∷ (netAfter0, 1010000) ∷ (netAfter1, 3960397) ∷ [])
+    -- closed comes before nothing (02 (b)): by output of 0, by status and by open time; deposit of LP 0; withdrawal of LP 0 and of more than the owner's
+    ∷ edge worked (closed 2 (SwapBaseOutput 0 0 10000 100)) ((number, 1) ∷ [])
+    ∷ edge (openFrom 101) (call (SwapBaseOutput 0 0 10000 100)) ((number, 1) ∷ [])
+    ∷ edge worked (closed 0 (Deposit (lp 0) (tokens 100) (tokens 100))) ((number, 1) ∷ [])
+    ∷ edge worked (closed 1 (Withdraw (lp 0) (lp 2000000) (tokens 0) (tokens 0))) ((number, 1) ∷ [])
+    ∷ edge worked (closed 1 (Withdraw (lp 3) (lp 2) (tokens 0) (tokens 0))) ((number, 1) ∷ [])
     ∷ []
 
 -- what comes out is what must, in every row

@@ -1,4 +1,4 @@
--- Document 01, 'Deposit' (lp, two maximums) and 'Withdrawal' (lp, the owner's LP, two minimums), over the status and the books b.
+-- Document 01, 'Deposit' (lp, two maximums) and 'Withdrawal' (lp, the owner's LP, two minimums), with document 02 (b), over the status and the books b.
 use Prim.Native.Nat.{ℕ, _+_, _-_, min}
 use mathlib.Core.Bool.{Bool, true, false}
 use mathlib.Core.List.{[], _∷_}
@@ -14,11 +14,11 @@ use Rattle.status.specs.Status.{bit}
 use Rattle.worth.specs.Worth.{part}
 
 -- ---- deposit
--- lp 0, 10; bit 0 set, 1; 8, 7; none or an amount 0, 4; an amount past u64, 11; above a maximum, 2; vault 8; supply past u64, 11
+-- bit 0 set, 1; lp 0, 10; 8, 7; none or an amount 0, 4; an amount past u64, 11; above a maximum, 2; vault 8; supply past u64, 11
 unfoldable pub depositTests : ℕ → ℕ → ℕ → Books → ℕ → ℕ → ℕ → Tests
 depositTests amount0 amount1 status b lp maximum0 maximum1 =
-    (eqb lp 0, RequireViolated)
-    ∷ (bit 0 status, NotApproved)
+    (bit 0 status, NotApproved)
+    ∷ (eqb lp 0, RequireViolated)
     ∷ (past (counters0 (b .fees)), MathOverflow)
     ∷ (past (counters1 (b .fees)), MathOverflow)
     ∷ (ltb (b .vault0) (counters0 (b .fees)), InsufficientVault)
@@ -51,12 +51,12 @@ depositAfter status b lp maximum0 maximum1 =
     depositAt (part true lp (b .supply) (net0 b)) (part true lp (b .supply) (net1 b)) status b lp maximum0 maximum1
 
 -- ---- withdrawal
--- lp 0 or above the owner's, 10; bit 1, 1; 8, 7; 4; 11; amounts capped at the nets; below a minimum, 2; lp above supply, 11
+-- bit 1, 1; lp 0 or above the owner's, 10; 8, 7; 4; 11; amounts capped at the nets; below a minimum, 2; lp above supply, 11
 unfoldable pub withdrawTests : ℕ → ℕ → ℕ → ℕ → ℕ → Books → ℕ → ℕ → ℕ → ℕ → Tests
 withdrawTests amount0 amount1 paid0 paid1 status b lp owned minimum0 minimum1 =
-    (eqb lp 0, RequireViolated)
+    (bit 1 status, NotApproved)
+    ∷ (eqb lp 0, RequireViolated)
     ∷ (ltb owned lp, RequireViolated)
-    ∷ (bit 1 status, NotApproved)
     ∷ (past (counters0 (b .fees)), MathOverflow)
     ∷ (past (counters1 (b .fees)), MathOverflow)
     ∷ (ltb (b .vault0) (counters0 (b .fees)), InsufficientVault)

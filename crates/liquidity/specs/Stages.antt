@@ -13,8 +13,8 @@ use Rattle.liquidity.specs.Liquidity.{deposited, withdrawn}
 
 -- the tests before the nets'
 abbrev pub frontTests : Bool → ℕ → ℕ → ℕ → Tests
-frontTests true status lp owned = (eqb lp 0, RequireViolated) ∷ (bit 0 status, NotApproved) ∷ []
-frontTests false status lp owned = (eqb lp 0, RequireViolated) ∷ (ltb owned lp, RequireViolated) ∷ (bit 1 status, NotApproved) ∷ []
+frontTests true status lp owned = (bit 0 status, NotApproved) ∷ (eqb lp 0, RequireViolated) ∷ []
+frontTests false status lp owned = (bit 1 status, NotApproved) ∷ (eqb lp 0, RequireViolated) ∷ (ltb owned lp, RequireViolated) ∷ []
 
 -- above a maximum, 2
 abbrev pub aboveTests : ℕ → ℕ → ℕ → ℕ → Tests

@@ -13,6 +13,8 @@ use refusal::MATH_OVERFLOW;
 use refusal::NOT_APPROVED;
 use refusal::PANIC;
 use refusal::REQUIRE_VIOLATED;
+use refusal::either;
+use refusal::first1;
 use refusal::first2;
 use refusal::first3;
 use refusal::past_sum;
@@ -23,22 +25,17 @@ ghost use Rattle.refusal.specs.Tests.{first};
 ghost use Rattle.liquidity.specs.Liquidity.{changeAfter};
 ghost use Rattle.liquidity.specs.Stages.{frontTests, depositRest, withdrawRest};
 
-// Deposit: lp 0, 10; bit 0 set, 1. Withdrawal: lp 0 or above the owner's, 10; bit 1, 1.
+// Deposit: bit 0 set, 1; lp 0, 10. Withdrawal: bit 1, 1; lp 0 or above the owner's, 10.
 fn front_number(is_deposit: bool, status: u64, lp: LpTokens, owned: LpTokens) -> u64
     ensures { λ r. ⌜ r ≡ first (frontTests «is_deposit» status (lp .0) (owned .0)) ⌝ }
 {
     let none = lp.0 == 0;
     if is_deposit {
-        return first2(none, REQUIRE_VIOLATED, status / 1 % 2 == 1, NOT_APPROVED);
+        return first2(status / 1 % 2 == 1, NOT_APPROVED, none, REQUIRE_VIOLATED);
     }
-    first3(
-        none,
-        REQUIRE_VIOLATED,
-        lp.0 > owned.0,
-        REQUIRE_VIOLATED,
-        status / 2 % 2 == 1,
-        NOT_APPROVED,
-    )
+    let closed = first1(status / 2 % 2 == 1, NOT_APPROVED);
+    let asked = first2(none, REQUIRE_VIOLATED, lp.0 > owned.0, REQUIRE_VIOLATED);
+    either(closed, asked)
 }
 
 // The amounts are known. Above a maximum, 2; vault 8; supply past u64, 11; else the booking.

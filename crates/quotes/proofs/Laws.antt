@@ -6,7 +6,7 @@ use Prim.Native.Nat.{ℕ, _≤_}
 use native.Mathlib.Omega.{arith}
 use lib.Dec.{eqb}
 use Rattle.refusal.specs.Tests.{Tests, _then_, first, outcome}
-use Rattle.refusal.proofs.Stops.{facts, Passed, numbered, first-stage, first-past, first-passed, outcome-all, outcome-map, outcome-stop, outcome-first, first-then, passed-left, passed-right, stopped, gone}
+use Rattle.refusal.proofs.Stops.{facts, Passed, numbered, first-passed, outcome-all, outcome-map, outcome-stop, outcome-first, first-then, passed-left, passed-right, stopped, gone}
 use Rattle.rates.specs.declared.Terms.{Terms}
 use Rattle.rates.specs.Rates.{rateLimits, limitTests as feeLimits, creatorRate, onInput}
 use Rattle.calculator.specs.declared.SwapResult.{SwapResult}
@@ -19,28 +19,9 @@ use Rattle.accounting.specs.Counters.{ofToken, net0, net1, counterTests, netsAn
 use Rattle.quotes.specs.declared.Quote.{Quote}
 use Rattle.quotes.specs.declared.Ready.{Ready}
 use Rattle.quotes.specs.declared.Priced.{Priced}
-use Rattle.quotes.specs.Quotes.{netIn, netOut, resultOf, closedTests, noneTests, sideTests, frontTests, netTests, calculatorTests, slippageTests, allTests, refusedQuote, quoteOf}
+use Rattle.quotes.specs.Quotes.{netIn, netOut, resultOf, frontTests, netTests, calculatorTests, slippageTests, allTests, refusedQuote, quoteOf}
 use Rattle.quotes.specs.Stages.{readyAt, Swappable, answerAt, pricedAt}
 use Rattle.quotes.proofs.Answers.{priced-number, priced-result, result-covered}
-
--- ---- the front: by input the closing first, by output the amount
-module _ (t : Terms) (status direction amount clock limit : ℕ) (l : limit ≡ first (feeLimits (t .rates))) where
-  pub limit-refused : (byInput : Bool) → (limit ≡ 0 → ⊥) → limit ≡ first (frontTests byInput t status direction amount clock)
-  limit-refused true z = first-stage (feeLimits (t .rates)) _ limit l z
-  limit-refused false z = first-stage (feeLimits (t .rates)) _ limit l z
-
-  -- past the limits
-  pub input-front :
-      (r : ℕ) → limit ≡ 0 → r ≡ first (closedTests t status clock then (noneTests amount then sideTests direction))
-      → r ≡ first (frontTests true t status direction amount clock)
-  unfolding rateLimits
-  input-front r z e = first-past (feeLimits (t .rates)) _ r refl (sym z ∙ l) e
-
-  pub output-front :
-      (r : ℕ) → limit ≡ 0 → r ≡ first (noneTests amount then (closedTests t status clock then sideTests direction))
-      → r ≡ first (frontTests false t status direction amount clock)
-  unfolding rateLimits
-  output-front r z e = first-past (feeLimits (t .rates)) _ r refl (sym z ∙ l) e
 
 -- ---- the nets
 module _ (b : Books) (model : ℕ) {r : Ready} (f : r ≡ readyAt model (netsAnswer b)) where
@@ -65,12 +46,7 @@ module _ (b : Books) (model : ℕ) {r : Ready} (f : r ≡ readyAt model (netsAns
   pub ready-net1 : r .number ≡ 0 → r .net1 ≡ net1 b
   ready-net1 z = ap (λ (r : Ready). r .net1) f ∙ ap (λ (a : Nets). readyAt model a .net1) (nets-told z)
 
--- what is known past both
-rates-passed :
-    (t : Terms) (status direction amount clock : ℕ) (i : Bool) → Passed (frontTests i t status direction amount clock) → Passed (feeLimits (t .rates))
-rates-passed t status direction amount clock true h = passed-left (feeLimits (t .rates)) _ h
-rates-passed t status direction amount clock false h = passed-left (feeLimits (t .rates)) _ h
-
+-- what is known past the rate limits and the nets' tests
 swappable : (t : Terms) (b : Books) (model : ℕ) → Passed (feeLimits (t .rates)) → Passed (netTests b model) → Swappable t b
 unfolding rateLimits _then_ counterTests
 swappable t b model f g = record {
@@ -94,7 +70,7 @@ module _ (byInput : Bool) (t : Terms) (status : ℕ) (b : Books) (direction amou
   s = resultOf byInput t b zeroIn amount
 
   abbrev fronts : Tests
-  fronts = frontTests byInput t status direction amount clock
+  fronts = frontTests t status direction amount clock
 
   abbrev netted : Tests
   netted = netTests b (t .«fee_model»)
@@ -120,7 +96,7 @@ module _ (byInput : Bool) (t : Terms) (status : ℕ) (b : Books) (direction amou
   all-numbered = go byInput _ _ _ _ _
     where
       go : (i : Bool) (f : Bool) (x y a o : ℕ)
-          → numbered (frontTests i t status direction amount clock
+          → numbered (frontTests t status direction amount clock
           then (netTests b (t .«fee_model»)
           then (calculatorTests i f (t .rates) (creatorRate t) x y amount then slippageTests i a o limit))) ≡ true
       go true f x y a o = refl
@@ -143,7 +119,7 @@ module _ (byInput : Bool) (t : Terms) (status : ℕ) (b : Books) (direction amou
   pub quote-swappable : Passed tests → Swappable t b
   unfolding allTests
   quote-swappable h =
-      swappable t b (t .«fee_model») (rates-passed t status direction amount clock byInput (passed-left fronts _ h))
+      swappable t b (t .«fee_model») (passed-left (feeLimits (t .rates)) _ (passed-left fronts _ h))
       (passed-left netted prices (passed-right fronts _ h))
 
   pub quote-covered : {q : Quote} → q ≡ quote → q .number ≡ 0 → q .result .output ≤ ofToken zeroIn (b .vault1) (b .vault0)
@@ -164,13 +140,9 @@ module _ (byInput : Bool) (t : Terms) (status : ℕ) (b : Books) (direction amou
     front-refused d z = stopped fronts (netted then prices) refusedQuote good _ n found z d ∙ all
 
     module _ (y : n ≡ 0) {r : Ready} (netting : r ≡ readyAt (t .«fee_model») (netsAnswer b)) where
-      front-numbered : (i : Bool) → numbered (frontTests i t status direction amount clock) ≡ true
-      unfolding rateLimits _then_
-      front-numbered true = refl
-      front-numbered false = refl
-
       fronts-passed : Passed fronts
-      fronts-passed = first-passed fronts (front-numbered byInput) (sym y ∙ found)
+      unfolding rateLimits _then_
+      fronts-passed = first-passed fronts refl (sym y ∙ found)
 
       after-front : {came : Quote} → came ≡ outcome (netted then prices) refusedQuote good → came ≡ quote
       after-front d = gone fronts (netted then prices) refusedQuote good _ fronts-passed d ∙ all
@@ -186,7 +158,7 @@ module _ (byInput : Bool) (t : Terms) (status : ℕ) (b : Books) (direction amou
         nets-passed = ready-passed b (t .«fee_model») netting z
 
         ok : Swappable t b
-        ok = swappable t b (t .«fee_model») (rates-passed t status direction amount clock byInput fronts-passed) nets-passed
+        ok = swappable t b (t .«fee_model») (passed-left (feeLimits (t .rates)) _ fronts-passed) nets-passed
 
         is0 : r .net0 ≡ net0 b
         is0 = ready-net0 b (t .«fee_model») netting z

@@ -1,5 +1,5 @@
--- Document 01 with document 02 (a), the two swaps up to the caller's limit: what a swap moves and charges, over a pool's terms t, status and books b.
--- The whole list of each swap's tests stands in `swap`; these are its first stages.
+-- Document 01 with document 02 (a) and (b), the two swaps up to the caller's limit: what a swap moves and charges, over a pool's terms t, status and books b.
+-- Each swap's whole list stands in `swap`; both begin with `frontTests` and `netTests`.
 use Prim.Native.Nat.{ℕ}
 use mathlib.Core.Bool.{Bool, true, false}
 use mathlib.Core.List.{[], _∷_}
@@ -33,24 +33,15 @@ resultOf byInput t b zeroIn amount =
     withFees byInput (onInput (t .«fee_model») zeroIn) (t .rates) (creatorRate t) (netIn zeroIn b) (netOut zeroIn b) amount
 
 -- ---- the stages
--- bit 2 set or clock before open time, 1
-abbrev pub closedTests : Terms → ℕ → ℕ → Tests
-closedTests t status clock = (bit 2 status, NotApproved) ∷ (ltb clock (t .«open_time»), NotApproved) ∷ []
-
--- amount 0, 10
-abbrev pub noneTests : ℕ → Tests
-noneTests amount = (eqb amount 0, RequireViolated) ∷ []
-
--- direction 5
-abbrev pub sideTests : ℕ → Tests
-sideTests direction = (ltb 1 direction, InvalidVault) ∷ []
-
--- the rate limits, 3; by input 1, 10, 5; by output 10, 1, 5
-abbrev pub frontTests : Bool → Terms → ℕ → ℕ → ℕ → ℕ → Tests
-frontTests true t status direction amount clock =
-    feeLimits (t .rates) then (closedTests t status clock then (noneTests amount then sideTests direction))
-frontTests false t status direction amount clock =
-    feeLimits (t .rates) then (noneTests amount then (closedTests t status clock then sideTests direction))
+-- both swaps' front: the rate limits, 3; bit 2 set or clock before open time, 1; amount 0, 10; direction 5
+abbrev pub frontTests : Terms → ℕ → ℕ → ℕ → ℕ → Tests
+frontTests t status direction amount clock =
+    feeLimits (t .rates)
+    then ((bit 2 status, NotApproved)
+    ∷ (ltb clock (t .«open_time»), NotApproved)
+    ∷ (eqb amount 0, RequireViolated)
+    ∷ (ltb 1 direction, InvalidVault)
+    ∷ [])
 
 -- a net of 0, 11; model 9
 abbrev pub modelTests : ℕ → ℕ → ℕ → Tests
@@ -75,7 +66,7 @@ unfoldable pub allTests : Bool → Terms → ℕ → Books → ℕ → ℕ → �
 allTests byInput t status b direction amount limit clock =
     let zeroIn = eqb direction 0 in
     let s = resultOf byInput t b zeroIn amount in
-    frontTests byInput t status direction amount clock
+    frontTests t status direction amount clock
     then (netTests b (t .«fee_model»)
     then (calculatorTests byInput (onInput (t .«fee_model») zeroIn) (t .rates) (creatorRate t) (netIn zeroIn b) (netOut zeroIn b) amount
     then slippageTests byInput (s .input) (s .output) limit))

@@ -18,10 +18,10 @@ use refusal::INVALID_VAULT;
 use refusal::NOT_APPROVED;
 use refusal::PANIC;
 use refusal::REQUIRE_VIOLATED;
+use refusal::either;
 use refusal::first1;
 use refusal::first2;
 use refusal::first3;
-use refusal::first4;
 ghost use mathlib.Core.Path.{_≡_};
 ghost use Rattle.refusal.specs.Tests.{first};
 ghost use Rattle.accounting.specs.Counters.{netsAnswer};
@@ -74,49 +74,21 @@ fn refused_quote(number: u64) -> Quote
     }
 }
 
-// Rate limits 3; bit 2 set or clock before open time, 1; amount 0, 10; direction 5. By output the amount stands before the closing.
-fn front_number(
-    by_input: bool,
-    terms: Terms,
-    status: u64,
-    direction: u64,
-    amount: u64,
-    clock: u64,
-) -> u64
-    ensures { λ r. ⌜ r ≡ first (frontTests «by_input» terms status direction amount clock) ⌝ }
+// Both swaps' front: rate limits 3; bit 2 set or clock before open time, 1; amount 0, 10; direction 5.
+fn front_number(terms: Terms, status: u64, direction: u64, amount: u64, clock: u64) -> u64
+    ensures { λ r. ⌜ r ≡ first (frontTests terms status direction amount clock) ⌝ }
 {
     let rates = terms.rates;
     let open_time = terms.open_time;
-    let limit = limit_number(rates, rates.creator);
-    if limit != ACCEPTED {
-        return limit;
-    }
-    let closed = status / 4 % 2 == 1;
-    let early = clock < open_time;
-    let none = amount == 0;
-    let side = direction > 1;
-    if by_input {
-        return first4(
-            closed,
-            NOT_APPROVED,
-            early,
-            NOT_APPROVED,
-            none,
-            REQUIRE_VIOLATED,
-            side,
-            INVALID_VAULT,
-        );
-    }
-    first4(
-        none,
-        REQUIRE_VIOLATED,
-        closed,
+    let limits = limit_number(rates, rates.creator);
+    let closed = first2(
+        status / 4 % 2 == 1,
         NOT_APPROVED,
-        early,
+        clock < open_time,
         NOT_APPROVED,
-        side,
-        INVALID_VAULT,
-    )
+    );
+    let asked = first2(amount == 0, REQUIRE_VIOLATED, direction > 1, INVALID_VAULT);
+    either(limits, either(closed, asked))
 }
 
 // Counters' sums 8, vaults 7; a net of 0, 11; model 9.
@@ -206,7 +178,7 @@ pub fn quote_swap(
 ) -> Quote
     ensures { λ r. ⌜ r ≡ quoteOf «by_input» terms status books direction amount limit clock ⌝ }
 {
-    let front = front_number(by_input, terms, status, direction, amount, clock);
+    let front = front_number(terms, status, direction, amount, clock);
     if front != ACCEPTED {
         return refused_quote(front);
     }

@@ -1,20 +1,19 @@
 -- Document 01, 'Swap by input' (direction, amount, minimum, clock) and 'Swap by output' (direction, amount, maximum, clock), with
--- document 02 (a), over a pool's terms t, status and books b, the ring's head and its newest entry e. zeroIn is true where token 0 goes in
+-- document 02 (a) and (b), over a pool's terms t, status and books b, the ring's head and its newest entry e. zeroIn is true where token 0 goes in
 -- (direction 0).
 use Prim.Native.Nat.{ℕ, _+_, _-_}
 use mathlib.Core.Bool.{Bool, true, false}
 use mathlib.Core.List.{_∷_}
 use lib.Dec.{ltb, leb, eqb}
-use Rattle.refusal.specs.Refusal.{NotApproved, ExceededSlippage, InvalidInput, InvalidVault, InsufficientVault, MathOverflow, InvalidFeeModel, RequireViolated, Panic}
-use Rattle.refusal.specs.Tests.{Tests, past, outcome}
-use Rattle.fees.specs.Fees.{Million}
+use Rattle.refusal.specs.Refusal.{ExceededSlippage, MathOverflow, RequireViolated, Panic}
+use Rattle.refusal.specs.Tests.{Tests, _then_, past, outcome}
 use Rattle.rates.specs.declared.Terms.{Terms}
-use Rattle.rates.specs.Rates.{HighestFeeRate, creatorRate, onInput}
+use Rattle.rates.specs.Rates.{creatorRate, onInput}
 use Rattle.calculator.specs.declared.SwapResult.{SwapResult}
 use Rattle.calculator.specs.Calculator.{curveOutput, curveInput}
 use Rattle.accounting.specs.declared.FeeCounters.{FeeCounters}
 use Rattle.accounting.specs.declared.Books.{Books}
-use Rattle.accounting.specs.Counters.{ofToken, counters0, counters1, net0, net1}
+use Rattle.accounting.specs.Counters.{ofToken, net0, net1}
 use Rattle.accounting.specs.Booking.{creatorToken, booked}
 use Rattle.oracle.specs.declared.Ring.{Ring}
 use Rattle.oracle.specs.declared.Update.the-variants as U
@@ -23,8 +22,7 @@ use Rattle.oracle.specs.Update.{afterOf}
 use Rattle.receipt.specs.declared.Receipt.{Receipt}
 use Rattle.receipt.specs.Kind.{SwapBaseInput, SwapBaseOutput}
 use Rattle.receipt.specs.Receipt.{nothingShared, refusal, accepted}
-use Rattle.status.specs.Status.{bit}
-use Rattle.quotes.specs.Quotes.{netIn, netOut, resultOf}
+use Rattle.quotes.specs.Quotes.{netIn, netOut, resultOf, frontTests, netTests}
 use Rattle.swap.specs.declared.SwapAfter.{SwapAfter}
 
 -- ---- the tests, each call's in its order; s is what the swap moves and charges
@@ -41,45 +39,23 @@ lastTests zeroIn zeroFee s b ring e clock =
 -- model 9; output 0, 10; output below minimum, 2; a counter past u64, 11; vault 8; ring
 unfoldable pub inputTests : Bool → Bool → SwapResult → Terms → ℕ → Books → Ring → Entry → ℕ → ℕ → ℕ → ℕ → Tests
 inputTests zeroIn zeroFee s t status b ring e direction amount minimum clock =
-    (ltb HighestFeeRate (t .rates .trade + t .rates .creator), InvalidInput)
-    ∷ (ltb Million (t .rates .protocol + t .rates .fund), InvalidInput)
-    ∷ (bit 2 status, NotApproved)
-    ∷ (ltb clock (t .«open_time»), NotApproved)
-    ∷ (eqb amount 0, RequireViolated)
-    ∷ (ltb 1 direction, InvalidVault)
-    ∷ (past (counters0 (b .fees)), MathOverflow)
-    ∷ (past (counters1 (b .fees)), MathOverflow)
-    ∷ (ltb (b .vault0) (counters0 (b .fees)), InsufficientVault)
-    ∷ (ltb (b .vault1) (counters1 (b .fees)), InsufficientVault)
-    ∷ (eqb (net0 b) 0, Panic)
-    ∷ (eqb (net1 b) 0, Panic)
-    ∷ (ltb 2 (t .«fee_model»), InvalidFeeModel)
-    ∷ (eqb (s .output) 0, RequireViolated)
+    frontTests t status direction amount clock
+    then (netTests b (t .«fee_model»)
+    then ((eqb (s .output) 0, RequireViolated)
     ∷ (ltb (s .output) minimum, ExceededSlippage)
-    ∷ lastTests zeroIn zeroFee s b ring e clock
+    ∷ lastTests zeroIn zeroFee s b ring e clock))
 
--- rate limits 3; amount 0, 10; then 1, 5, 8, 7, 11, 9 as by input; output with creator fee at or above netOut, 11;
--- input before or after fees past u64, 11; input above maximum, 2; counters, vault, ring as by input
+-- 3, 1, 10, 5, 8, 7, 11, 9 as by input; output with creator fee at or above netOut, 11; input before or after fees past u64, 11;
+-- input above maximum, 2; counters, vault, ring as by input
 unfoldable pub outputTests : Bool → Bool → Bool → SwapResult → Terms → ℕ → Books → Ring → Entry → ℕ → ℕ → ℕ → ℕ → Tests
 outputTests zeroIn feeOnInput zeroFee s t status b ring e direction amount maximum clock =
-    (ltb HighestFeeRate (t .rates .trade + t .rates .creator), InvalidInput)
-    ∷ (ltb Million (t .rates .protocol + t .rates .fund), InvalidInput)
-    ∷ (eqb amount 0, RequireViolated)
-    ∷ (bit 2 status, NotApproved)
-    ∷ (ltb clock (t .«open_time»), NotApproved)
-    ∷ (ltb 1 direction, InvalidVault)
-    ∷ (past (counters0 (b .fees)), MathOverflow)
-    ∷ (past (counters1 (b .fees)), MathOverflow)
-    ∷ (ltb (b .vault0) (counters0 (b .fees)), InsufficientVault)
-    ∷ (ltb (b .vault1) (counters1 (b .fees)), InsufficientVault)
-    ∷ (eqb (net0 b) 0, Panic)
-    ∷ (eqb (net1 b) 0, Panic)
-    ∷ (ltb 2 (t .«fee_model»), InvalidFeeModel)
-    ∷ (leb (netOut zeroIn b) (curveOutput feeOnInput (creatorRate t) amount), Panic)
+    frontTests t status direction amount clock
+    then (netTests b (t .«fee_model»)
+    then ((leb (netOut zeroIn b) (curveOutput feeOnInput (creatorRate t) amount), Panic)
     ∷ (past (curveInput feeOnInput (creatorRate t) (netIn zeroIn b) (netOut zeroIn b) amount), Panic)
     ∷ (past (s .input), Panic)
     ∷ (ltb maximum (s .input), ExceededSlippage)
-    ∷ lastTests zeroIn zeroFee s b ring e clock
+    ∷ lastTests zeroIn zeroFee s b ring e clock))
 
 abbrev pub swapTests : Bool → Bool → Bool → Bool → SwapResult → Terms → ℕ → Books → Ring → Entry → ℕ → ℕ → ℕ → ℕ → Tests
 swapTests true zeroIn feeOnInput zeroFee = inputTests zeroIn zeroFee

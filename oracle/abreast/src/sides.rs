@@ -24,7 +24,7 @@ pub fn asked(before: &State, case: &Case, port: &mut Port, tally: &mut Tally) ->
     tally.answered(case.kind, document.number);
     port_side(case, &call, &document, port, tally);
     match case.left_to_model() {
-        Some(left) => tally.left.add(left),
+        Some(left) => tally.left_to_model(left, document.number, case),
         None => original_side(before, case, &call, &document, tally),
     }
     document

@@ -4,7 +4,7 @@ use crate::sides::Fault;
 use beside::left::LeftCounts;
 use beside::page;
 use beside::verdict::Side;
-use record::Case;
+use record::{Case, Left};
 use std::collections::BTreeMap;
 use std::time::Instant;
 
@@ -96,6 +96,14 @@ impl Tally {
                 self.classes.entry(name).or_insert(Class { side, rows, count: 0 }).count += 1;
             }
             None => self.original_fault(format!("no row for: {name}"), case),
+        }
+    }
+
+    /// Where document 02 gives such cases one number, the rules' is that one.
+    pub fn left_to_model(&mut self, left: Left, number: u64, case: &Case) {
+        self.left.add(left);
+        if left.number().is_some_and(|told| told != number) {
+            self.original_fault(format!("{left}: the rules give {number}"), case);
         }
     }
 

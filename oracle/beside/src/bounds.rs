@@ -7,7 +7,7 @@ use crate::verdict::{verdict, Side};
 use record::{filled_ring, Case, Entry, Pool, Rates, RingHead, State};
 
 struct Bound {
-    says: &'static str,
+    says: String,
     number: u64,
     /// Columns of the answer that are the same with the tokens exchanged.
     shows: Vec<(&'static str, u64)>,
@@ -38,6 +38,7 @@ fn bounds() -> Vec<Bound> {
         rates(),
         counters(),
         limits(),
+        closed_swaps(),
         swaps_out(),
         free_swaps(),
         charged_swaps(),
@@ -47,6 +48,7 @@ fn bounds() -> Vec<Bound> {
         ring_sums(),
         deposits(),
         withdrawals(),
+        closed_deposits_and_withdrawals(),
         settlements(),
         statuses(),
         fees(),
@@ -63,7 +65,7 @@ impl Bound {
         if case == self.case {
             return vec![self];
         }
-        let says = "  the same with the tokens exchanged";
+        let says = "  the same with the tokens exchanged".into();
         let mirror = Bound { says, number: self.number, shows: self.shows.clone(), case };
         vec![self, mirror]
     }
@@ -116,8 +118,8 @@ fn mirrored(case: &Case) -> Case {
     Case { kind: case.kind, columns }
 }
 
-fn bound(says: &'static str, number: u64, case: Case) -> Bound {
-    Bound { says, number, shows: vec![], case }
+fn bound(says: impl Into<String>, number: u64, case: Case) -> Bound {
+    Bound { says: says.into(), number, shows: vec![], case }
 }
 
 fn alone(kind: u64, columns: &[u64]) -> Case {
@@ -263,8 +265,6 @@ fn limits() -> Vec<Bound> {
         bound("by input one second before", 1, on(opens, 2, &[0, 10_000, 1, 99])),
         bound("by output at the open time", 0, on(opens, 3, &[0, 39_505, MOST, 100])),
         bound("by output one second before", 1, on(opens, 3, &[0, 39_505, MOST, 99])),
-        bound("by input of 0 before the open time", 1, on(opens, 2, &[0, 0, 1, 99])),
-        bound("by output of 0 before the open time", 10, on(opens, 3, &[0, 0, 1, 99])),
         bound("by input, only bit 2 set", 1, on(closed(4), 2, &[0, 10_000, 1, 5])),
         bound("by input, all bits but 2 set", 0, on(closed(MOST - 4), 2, &[0, 10_000, 1, 5])),
         bound("by output, only bit 2 set", 1, on(closed(4), 3, &[0, 39_505, MOST, 5])),
@@ -280,6 +280,52 @@ fn limits() -> Vec<Bound> {
         bound("input at the maximum", 0, on(day(), 3, &[0, 39_505, 10_000, 5])),
         bound("input one above the maximum", 2, on(day(), 3, &[0, 39_505, 9_999, 5])),
     ]
+}
+
+/// The worked day's pool with counters of token 0 whose sum is 2^64, and with one above its vault.
+fn counters_past() -> [Pool; 2] {
+    [Pool { protocol: [MOST, 0], fund: [1, 0], ..day() }, Pool { protocol: [MILLION + 1, 0], ..day() }]
+}
+
+/// Document 02 (b), of both swaps alike: the rate limits, then closed, then the amount, then the rest.
+fn closed_swaps() -> Vec<Bound> {
+    let closed = |pool| Pool { status: 4, ..pool };
+    let opens = |pool| Pool { open_time: 100, ..pool };
+    let other_bits = Pool { status: 3, ..day() };
+    let limits = Pool { rates: rated(MILLION, 0, 0, 0, 0), ..day() };
+    let free = Pool { rates: rated(0, 0, 0, 0, 0), ..day() };
+    let [sum, vault] = counters_past();
+    // The pool, and direction, amount and clock.
+    let rows = [
+        ("of 0, rates past the limits", 3, limits, [0, 0, 5]),
+        ("of 0, rates past the limits, closed", 3, closed(limits), [0, 0, 5]),
+        ("of 0, rates past the limits, before the open time", 3, opens(limits), [0, 0, 99]),
+        ("of 0, closed", 1, closed(day()), [0, 0, 5]),
+        ("of 0, closed, direction 2", 1, closed(day()), [2, 0, 5]),
+        ("of 0, closed, rate sum 0", 1, closed(free), [0, 0, 5]),
+        ("of 0, closed, counters' sum 2^64", 1, closed(sum), [0, 0, 5]),
+        ("of 10, closed, counters' sum 2^64", 1, closed(sum), [0, 10, 5]),
+        ("of 10, closed, a counter above its vault", 1, closed(vault), [0, 10, 5]),
+        ("of 0, closed, before the open time", 1, opens(closed(day())), [0, 0, 99]),
+        ("of 0, closed, at the open time", 1, opens(closed(day())), [0, 0, 100]),
+        ("of 0, before the open time", 1, opens(day()), [0, 0, 99]),
+        ("of 0, before the open time, direction 2", 1, opens(day()), [2, 0, 99]),
+        ("of 10, before the open time, counters' sum 2^64", 1, opens(sum), [0, 10, 99]),
+        ("of 0, at the open time", 10, opens(day()), [0, 0, 100]),
+        ("of 0, bits 0 and 1 set", 10, other_bits, [0, 0, 5]),
+        ("of 0", 10, day(), [0, 0, 5]),
+        ("of 0, direction 2", 10, day(), [2, 0, 5]),
+        ("of 0, counters' sum 2^64", 10, sum, [0, 0, 5]),
+        ("of 0, a counter above its vault", 10, vault, [0, 0, 5]),
+    ];
+    let mut out = vec![];
+    for (swap, kind, wide) in [("by input", 2, 0), ("by output", 3, MOST)] {
+        for (says, number, pool, [direction, amount, clock]) in rows {
+            let case = on(pool, kind, &[direction, amount, wide, clock]);
+            out.push(bound(format!("{swap} {says}"), number, case));
+        }
+    }
+    out
 }
 
 /// By output: the output against the net, and the input before and after fees at 2^64 - 1, which
@@ -507,7 +553,6 @@ fn deposits() -> Vec<Bound> {
         bound("amounts at the maximums", 0, on(day(), 4, &[3, 2, 6])),
         bound("an amount one above its maximum", 2, on(day(), 4, &[3, 1, 6])),
         bound("above a maximum and past the vault", 2, on(full(MOST - 4), 4, &[5, 4, MOST])),
-        bound("a deposit of 0 that is closed", 10, on(Pool { status: 1, ..day() }, 4, &[0, 1, 1])),
         bound("a deposit, only bit 0 set", 1, on(Pool { status: 1, ..day() }, 4, &[3, 2, 6])),
         bound("a deposit, all bits but 0 set", 0, on(Pool { status: MOST - 1, ..day() }, 4, &[3, 2, 6])),
     ]
@@ -530,7 +575,6 @@ fn withdrawals() -> Vec<Bound> {
         bound("an amount of 2^64, below the minimum", 11, withdrawal(pool([2, 1], 1), HALF, 3)),
         bound("an amount of 0, the other past u64", 4, withdrawal(pool([0, 10], 1), HALF, 3)),
         bound("a withdrawal at supply 0", 4, withdrawal(pool([10, 10], 0), 1, 0)),
-        bound("a withdrawal of 0 that is closed", 10, on(Pool { status: 2, ..day() }, 5, &[0, 5, 0, 0])),
         bound("a withdrawal, only bit 1 set", 1, on(Pool { status: 2, ..day() }, 5, &[3, 3, 0, 0])),
         bound(
             "a withdrawal, all bits but 1 set",
@@ -538,6 +582,42 @@ fn withdrawals() -> Vec<Bound> {
             on(Pool { status: MOST - 2, ..day() }, 5, &[3, 3, 0, 0]),
         ),
     ]
+}
+
+/// Document 02 (b): closed, then the amount, then the rest. The open time closes neither call.
+fn closed_deposits_and_withdrawals() -> Vec<Bound> {
+    // The kind, the bit that closes it, and the arguments.
+    let passing =
+        [("a deposit of 3", 4, 1, &[3, MOST, MOST][..]), ("a withdrawal of 3", 5, 2, &[3, 3, 0, 0])];
+    let refused = [
+        ("a deposit of 0", 4, 1, &[0, MOST, MOST][..]),
+        ("a withdrawal of 0", 5, 2, &[0, 3, 0, 0]),
+        ("a withdrawal above the owner's", 5, 2, &[4, 3, 0, 0]),
+    ];
+    let [sum, vault] = counters_past();
+    let at_status = |status, pool| Pool { status, ..pool };
+    let opens = Pool { open_time: MOST, ..day() };
+    let mut out = vec![];
+    for (says, kind, bit, arguments) in passing {
+        let row = |more, number, pool| bound(format!("{says}, {more}"), number, on(pool, kind, arguments));
+        out.extend([
+            row("closed, counters' sum 2^64", 1, at_status(bit, sum)),
+            row("closed, a counter above its vault", 1, at_status(bit, vault)),
+            row("before the open time", 0, opens),
+        ]);
+    }
+    for (says, kind, bit, arguments) in refused {
+        let row = |more, number, pool| bound(format!("{says}, {more}"), number, on(pool, kind, arguments));
+        out.extend([
+            row("closed", 1, at_status(bit, day())),
+            row("closed, counters' sum 2^64", 1, at_status(bit, sum)),
+            row("both other bits set", 10, at_status(7 - bit, day())),
+            row("before the open time", 10, opens),
+            row("counters' sum 2^64", 10, sum),
+            row("a counter above its vault", 10, vault),
+        ]);
+    }
+    out
 }
 
 fn settlements() -> Vec<Bound> {

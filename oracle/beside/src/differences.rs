@@ -2,7 +2,7 @@
 //! Part G has what the Rust no longer decides, and only there it is asked nevertheless.
 
 use crate::left::LeftCounts;
-use record::{Case, State, POOL_COLUMNS};
+use record::{Case, Left, State, POOL_COLUMNS};
 use runner::{Cause, Outcome};
 
 struct Row {
@@ -11,6 +11,8 @@ struct Row {
     case: Case,
     rust: &'static str,
     port: u64,
+    /// None where the Rust decides.
+    left: Option<Left>,
     /// Some columns of the port's answer.
     shows: &'static [(&'static str, u64)],
 }
@@ -51,6 +53,7 @@ fn rows() -> Vec<Row> {
         wide(),
         alone(),
         free_days(),
+        closed_pools(),
     ]
     .into_iter()
     .flatten()
@@ -58,7 +61,7 @@ fn rows() -> Vec<Row> {
 }
 
 fn row(row: &'static str, case: Case, rust: &'static str, port: u64) -> Row {
-    Row { row, case, rust, port, shows: &[] }
+    Row { row, case, rust, port, left: None, shows: &[] }
 }
 
 /// A call on a pool of zeros but for these columns.
@@ -101,7 +104,8 @@ fn limits() -> Vec<Row> {
             3,
         ),
         row("B7", worked(&[("trade rate", 1_000_000), ("status", 4)], 2, swap), "1", 3),
-        row("B8", worked(&[("trade rate", 1_000_000)], 3, &[0, 0, 0, 0]), "10", 3),
+        row("B8", worked(&[("trade rate", 1_000_000)], 3, &[0, 0, MOST, 0]), "10", 3),
+        row("B8", worked(&[("trade rate", 1_000_000), ("status", 4)], 3, &[0, 0, MOST, 0]), "10", 3),
     ]
 }
 
@@ -239,7 +243,7 @@ fn free_days() -> Vec<Row> {
     let one_by_two = nets(1, 2);
     let past_its_end = [("vault 0", 1), ("vault 1", 2), ("ring index", 100)];
     let steep = [("vault 0", 1), ("vault 1", 1 << 33), ("ring used", 1)];
-    vec![
+    let rows = vec![
         row("G1", function(15, &[0, 0, 0]), "4", 0).shows(&[("result", 0)]),
         row("G2", on(&one_by_two, 2, &[0, 1, 0, 0]), "4", 0).shows(&ONE_FOR_ONE),
         row("G3", on(&one_by_two, 3, &[0, 1, MOST, 0]), "4", 0).shows(&ONE_FOR_ONE),
@@ -251,7 +255,26 @@ fn free_days() -> Vec<Row> {
         row("G7", on(&nets(HALF, 2), 3, &[0, 1, MOST, 0]), "4", 8),
         row("G8", on(&past_its_end, 2, &[0, 1, 0, 0]), "4", 11),
         row("G9", on(&steep, 2, &[0, 1, 0, HALF]), "4", 8),
-    ]
+    ];
+    left_to_model(rows, Left::RateSumOfZero)
+}
+
+/// A closed pool and an amount that is refused too, 02 (b): the Rust looks at the amount first.
+fn closed_pools() -> Vec<Row> {
+    let by_output = |closed| on(&[("trade rate", 1), closed], 3, &[0, 0, MOST, 0]);
+    let rows = vec![
+        row("G10", by_output(("status", 4)), "10", 1),
+        row("G11", by_output(("open time", 1)), "10", 1),
+        row("G12", on(&[("status", 1)], 4, &[0, MOST, MOST]), "10", 1),
+        row("G13", on(&[("status", 2)], 5, &[0, 0, 0, 0]), "10", 1),
+        row("G14", on(&[("status", 2)], 5, &[1, 0, 0, 0]), "10", 1),
+    ];
+    left_to_model(rows, Left::AmountOnClosedPool)
+}
+
+/// The rows of part G, with the reason why they are there.
+fn left_to_model(rows: Vec<Row>, left: Left) -> Vec<Row> {
+    rows.into_iter().map(|row| Row { left: Some(left), ..row }).collect()
 }
 
 const ONE_FOR_ONE: [(&str, u64); 8] = [
@@ -275,7 +298,7 @@ impl Row {
         let (rust, port) = (rust_says(&runner::answer(case)), model::answer(case));
         let number = port.number;
         let answered = rust == self.rust && number == self.port && case.shows(&port, self.shows);
-        let right = answered && case.original_decides() != self.row.starts_with('G');
+        let right = answered && case.left_to_model() == self.left;
         let mark = if right { "ok" } else { "FAIL" };
         println!("{:4} {mark}: {}\n     the Rust: {rust}; the rules: {number}", self.row, case.line());
         right

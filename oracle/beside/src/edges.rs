@@ -1,4 +1,4 @@
-//! Document 01's worked example and its edges, with document 02 (a), answered by both sides.
+//! Document 01's worked example and its edges, with document 02 (a) and (b), answered by both sides.
 //! Openings are added by document 01, so there the original has no answer.
 
 use crate::left::LeftCounts;
@@ -38,7 +38,8 @@ pub fn cases() -> Vec<Case> {
 }
 
 fn edges() -> Vec<Edge> {
-    let named = [worked_day(), calls(), creator_fees(), free_day(), openings(), rate_limits(), ring()];
+    let named =
+        [worked_day(), calls(), creator_fees(), free_day(), closed_day(), openings(), rate_limits(), ring()];
     named.into_iter().flatten().collect()
 }
 
@@ -147,6 +148,25 @@ fn free_day() -> Vec<Edge> {
     vec![
         edge("rates 0, fee on input: 10,000 in gives 39,603", swap(2, &[0, 10_000, 1, 100]), 0, &swapped),
         edge("rates 0, by output 39,603 costs 10,000", swap(3, &[0, 39_603, 10_000, 100]), 0, &swapped),
+    ]
+}
+
+/// The worked day closed, and an amount that is refused too: closed comes first.
+fn closed_day() -> Vec<Edge> {
+    let worked = opened(0, 0, RATES);
+    let closed = |bit, kind, arguments: &[u64]| {
+        let after = model::run(&worked, &Call::Status { bit, flag: 1 });
+        Case::of_call(&after.state, kind, arguments)
+    };
+    let by_output = [0, 0, 10_000, 100];
+    let mut early = worked.clone();
+    early.pool.open_time = 101;
+    vec![
+        edge("bit 2 set, by output 0 is 1", closed(2, 3, &by_output), 1, &[]),
+        edge("open time 101, by output 0 at clock 100 is 1", Case::of_call(&early, 3, &by_output), 1, &[]),
+        edge("bit 0 set, deposit LP 0 is 1", closed(0, 4, &[0, 100, 100]), 1, &[]),
+        edge("bit 1 set, withdrawal of 0 is 1", closed(1, 5, &[0, 2_000_000, 0, 0]), 1, &[]),
+        edge("bit 1 set, withdrawal of 3 of 2 LP is 1", closed(1, 5, &[3, 2, 0, 0]), 1, &[]),
     ]
 }
 

@@ -5,9 +5,7 @@ use record::{Answer, Case};
 const MILLION: u128 = 1_000_000;
 
 pub fn rates_past_limits(case: &Case) -> bool {
-    let rates = case.pool().rates;
-    let sum = |left, right| u128::from(left) + u128::from(right);
-    sum(rates.trade, rates.creator) >= MILLION || sum(rates.protocol, rates.fund) > MILLION
+    case.pool().rates.past_limits()
 }
 
 /// A swap by output whose input passes u64 even before fees.

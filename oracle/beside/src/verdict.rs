@@ -15,7 +15,7 @@ pub enum Side {
     DocumentAlone,
     /// Document 02 leaves the case to the model.
     Left,
-    /// A difference that no class explains.
+    /// A difference that no class explains, or one from the number that document 02 gives.
     Unlisted,
 }
 
@@ -32,7 +32,9 @@ pub fn verdict(case: &Case) -> Verdict {
     let document = document(case);
     if let Some(left) = case.left_to_model() {
         let class = format!("{} {}: {left}", case.form().name, document.number);
-        return Verdict { side: Side::Left, class, document, original: None };
+        let as_told = left.number().is_none_or(|number| number == document.number);
+        let side = if as_told { Side::Left } else { Side::Unlisted };
+        return Verdict { side, class, document, original: None };
     }
     let original = original(case);
     let (side, class) = classed(case, &document, &original);

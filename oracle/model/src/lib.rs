@@ -1,5 +1,5 @@
-//! The rules, document 01 with document 02 (a), in whole numbers: every call and every function
-//! alone, written from their text and in its order. It knows nothing of the original.
+//! The rules, document 01 with document 02 (a) and (b), in whole numbers: every call and every
+//! function alone, written from their text and in its order. It knows nothing of the original.
 
 pub mod calls;
 mod curve;

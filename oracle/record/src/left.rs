@@ -1,6 +1,7 @@
 //! Where the original no longer decides, by document 02: runs beside it leave such a case to the
 //! model, which the port is still held against.
 
+use crate::call::Call;
 use crate::case::Case;
 use std::fmt;
 
@@ -9,13 +10,27 @@ use std::fmt;
 pub enum Left {
     /// 02 (a): a swap, or the split alone, at a rate sum of 0, whichever side the fee is on.
     RateSumOfZero,
+    /// 02 (b): on a closed pool a swap by output of 0 within the rate limits, a deposit of LP 0, a
+    /// withdrawal of LP 0 or above the owner's.
+    AmountOnClosedPool,
 }
 
 impl fmt::Display for Left {
     fn fmt(&self, out: &mut fmt::Formatter) -> fmt::Result {
         out.write_str(match self {
             Left::RateSumOfZero => "rate sum 0, 02 (a)",
+            Left::AmountOnClosedPool => "refused amount on a closed pool, 02 (b)",
         })
+    }
+}
+
+impl Left {
+    /// The number that document 02 gives to all these cases, where it gives one.
+    pub fn number(self) -> Option<u64> {
+        match self {
+            Left::RateSumOfZero => None,
+            Left::AmountOnClosedPool => Some(1),
+        }
     }
 }
 
@@ -26,7 +41,10 @@ impl Case {
 
     /// The first reason that holds; none where the original decides.
     pub fn left_to_model(&self) -> Option<Left> {
-        let reasons = [(Left::RateSumOfZero, self.rate_sum_is_0())];
+        let reasons = [
+            (Left::RateSumOfZero, self.rate_sum_is_0()),
+            (Left::AmountOnClosedPool, self.is_refused_amount_on_closed_pool()),
+        ];
         reasons.into_iter().find(|(_, holds)| *holds).map(|(left, _)| left)
     }
 
@@ -38,6 +56,21 @@ impl Case {
                 pool.rates.trade == 0 && (pool.rates.creator == 0 || !pool.enabled)
             }
             15 => self.columns[1] == 0 && self.columns[2] == 0,
+            _ => false,
+        }
+    }
+
+    /// The original looks at these amounts first. Past the rate limits nothing has changed: the rules
+    /// give 3 before either test.
+    fn is_refused_amount_on_closed_pool(&self) -> bool {
+        let pool = self.pool();
+        match self.call() {
+            Some(Call::SwapByOutput(swap)) => {
+                let closed = pool.status_bit(2) || swap.clock < pool.open_time;
+                closed && swap.amount == 0 && !pool.rates.past_limits()
+            }
+            Some(Call::Deposit { lp, .. }) => pool.status_bit(0) && lp == 0,
+            Some(Call::Withdrawal { lp, owned, .. }) => pool.status_bit(1) && (lp == 0 || lp > owned),
             _ => false,
         }
     }

@@ -11,6 +11,14 @@ pub struct Rates {
     pub share: u64,
 }
 
+impl Rates {
+    /// Whether document 01's limits refuse every swap at these rates.
+    pub fn past_limits(&self) -> bool {
+        let sum = |left, right| u128::from(left) + u128::from(right);
+        sum(self.trade, self.creator) > 999_999 || sum(self.protocol, self.fund) > 1_000_000
+    }
+}
+
 /// The price ring without its entries.
 #[derive(Clone, Copy, Debug, Default, PartialEq, Eq)]
 pub struct RingHead {
@@ -90,6 +98,11 @@ impl Pool {
             head.index,
             head.mark,
         ]
+    }
+
+    /// Whether the pool is closed to what this bit stands for: 0 deposits, 1 withdrawals, 2 swaps.
+    pub fn status_bit(&self, bit: u64) -> bool {
+        self.status >> bit & 1 == 1
     }
 
     /// None where a yes or no is neither 1 nor 0, or words are missing.

@@ -1,5 +1,8 @@
--- `liquidity::front_number` meets its contract: the one front or the other.
+-- `liquidity::front_number` meets its contract: the one front or the other, closed before the amount.
 -- Assumes nothing.
+use mathlib.Core.Path.{refl}
+use Rattle.refusal.specs.Tests.{_then_}
+use Rattle.refusal.proofs.Stops.{either-then}
 use borrow.Author.Needs.{needs}
 use Rattle.liquidity.proofs.front_number.Statement.{statement}
 use Rattle.liquidity.proofs.front_number.Tie as tie
@@ -10,11 +13,20 @@ first2-requires c κs = search needs
 returns : tie.Need-returns
 returns c = rw (c .before .if1 .taken) (c .first2 .ensures)
 
-first3-requires : tie.Need-first3-requires
-first3-requires c κs = search needs
+first1-requires : tie.Need-first1-requires
+first1-requires c κs = search needs
+
+first2-requires-2 : tie.Need-first2-requires-2
+first2-requires-2 c κs = search needs
+
+either-requires : tie.Need-either-requires
+either-requires c κs = search needs
 
 returns-2 : tie.Need-returns-2
-returns-2 c = rw (c .before .before .before .if1 .left) (c .first3 .ensures)
+unfolding _then_
+returns-2 c =
+    let k = c .before .before .before .before in
+    rw (k .before .if1 .left) (either-then _ _ _ _ _ refl (k .first1 .ensures) (c .before .first22 .ensures) (c .either .ensures))
 
 pub front-number-spec : {M : Type 1} → statement M
-front-number-spec = tie.close (tie.spec first2-requires returns first3-requires returns-2)
+front-number-spec = tie.close (tie.spec first2-requires returns first1-requires first2-requires-2 either-requires returns-2)

@@ -33,8 +33,10 @@ fn share(random: &mut Random, state: &State) -> u64 {
 
 fn swap(random: &mut Random, state: &State, kind: u64) -> Vec<u64> {
     let direction = if random.chance(40) { random.pick(&[2, 3, u64::MAX]) } else { random.below(2) };
-    let amount = swap_amount(random, state, kind, direction);
     let clock = clock(random, state);
+    // A closed pool asked for 0 shows which of the two tests comes first.
+    let closed = state.pool.status_bit(2) || clock < state.pool.open_time;
+    let amount = if closed && random.chance(3) { 0 } else { swap_amount(random, state, kind, direction) };
     let loose = if kind == 2 { 0 } else { u64::MAX };
     let arguments = [direction, amount, loose, clock];
     let limit = match random.below(8) {
@@ -72,25 +74,25 @@ fn swap_amount(random: &mut Random, state: &State, kind: u64, direction: u64) ->
 }
 
 fn clock(random: &mut Random, state: &State) -> u64 {
-    let mark = state.pool.head.mark;
+    let (mark, open_time) = (state.pool.head.mark, state.pool.open_time);
     let clock = match random.below(8) {
         0 => random.any(),
-        1 => random.near(state.pool.open_time),
+        1 => random.near(open_time),
         2 => random.near(u64::MAX),
         3 => random.near(mark.saturating_add(15)),
         4 => mark.saturating_add(random.sized()),
         _ => mark.saturating_add(random.below(40)),
     };
-    if random.chance(8) {
-        clock
-    } else {
-        clock.max(state.pool.open_time)
+    // Mostly not before the open time.
+    match random.below(8) {
+        0 => clock,
+        1 if open_time > 0 => clock.min(open_time - 1),
+        _ => clock.max(open_time),
     }
 }
 
 fn liquidity(random: &mut Random, state: &State, kind: u64) -> Vec<u64> {
-    let lp = lp_amount(random, state.pool.supply);
-    let owned = if random.chance(10) { random.near(lp) } else { u64::MAX };
+    let (lp, owned) = lp_and_owned(random, state, kind);
     let loose = if kind == 4 { u64::MAX } else { 0 };
     let with_limits = |first, second| match kind {
         4 => vec![lp, first, second],
@@ -104,6 +106,17 @@ fn liquidity(random: &mut Random, state: &State, kind: u64) -> Vec<u64> {
     let [a0, a1] = if kind == 4 { receipt.paid_in } else { receipt.paid_out };
     let (first, second) = (random.near(a0), random.near(a1));
     with_limits(if random.chance(2) { first } else { loose }, if random.chance(2) { second } else { loose })
+}
+
+/// LP, and the owner's, who mostly has enough. On a closed pool the LP is often refused as well.
+fn lp_and_owned(random: &mut Random, state: &State, kind: u64) -> (u64, u64) {
+    let lp = lp_amount(random, state.pool.supply);
+    let closed = state.pool.status_bit(kind - 4);
+    match random.below(3) {
+        0 if closed => (0, random.any()),
+        1 if closed => (lp, random.up_to(lp.saturating_sub(1))),
+        _ => (lp, if random.chance(10) { random.near(lp) } else { u64::MAX }),
+    }
 }
 
 fn lp_amount(random: &mut Random, supply: u64) -> u64 {

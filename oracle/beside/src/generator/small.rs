@@ -19,6 +19,7 @@ const RATES: [[u64; 5]; 7] = [
     [999_999, 0, 1_000_000, 0, 0],
     [500_000, 0, 0, 500_000, 0],
 ];
+const PAST_LIMITS: [u64; 5] = [1_000_000, 0, 0, 0, 0];
 
 pub fn cases() -> impl Iterator<Item = Case> {
     grids().into_iter().flat_map(Grid::cases)
@@ -33,6 +34,9 @@ fn grids() -> Vec<Grid> {
     let mut grids = alone();
     for rates in RATES {
         grids.extend([2, 3].map(|kind| swaps(kind, rates)));
+    }
+    for rates in [RATES[0], WORKED, PAST_LIMITS] {
+        grids.extend([2, 3].map(|kind| refused_swaps(kind, rates)));
     }
     grids.extend([deposits(), withdrawals(), settlements(), statuses(), openings(), ring()]);
     grids.push(ring_past_its_end());
@@ -51,14 +55,31 @@ fn pool(rates: [u64; 5]) -> Vec<Vec<u64>> {
     columns
 }
 
-fn swaps(kind: u64, rates: [u64; 5]) -> Grid {
+/// A swap's pool, with the newest entry of its ring.
+fn pool_and_entry(rates: [u64; 5]) -> Vec<Vec<u64>> {
     let mut columns = pool(rates);
+    columns.extend([[5], [0], [7], [0], [9]].map(Vec::from));
+    columns
+}
+
+fn swaps(kind: u64, rates: [u64; 5]) -> Grid {
+    let mut columns = pool_and_entry(rates);
     (columns[0], columns[1]) = (to(5), to(5));
     (columns[2], columns[7]) = (to(1), to(1));
     (columns[11], columns[12]) = (to(3), YES_NO.to_vec());
-    columns.extend([[5], [0], [7], [0], [9]].map(Vec::from));
     let limits = if kind == 2 { to(2) } else { vec![1, 4, u64::MAX] };
     columns.extend([to(2), to(8), limits, vec![20]]);
+    Grid { kind, columns }
+}
+
+/// Swaps that fail several of their first tests at once, and some that fail none.
+fn refused_swaps(kind: u64, rates: [u64; 5]) -> Grid {
+    let mut columns = pool_and_entry(rates);
+    (columns[0], columns[1]) = (vec![0, 3], vec![9]);
+    (columns[2], columns[4]) = (vec![0, 1, 4], vec![0, u64::MAX]);
+    (columns[9], columns[10], columns[11]) = (to(7), vec![0, 20, 21], vec![0, 3]);
+    let limit = if kind == 2 { 0 } else { u64::MAX };
+    columns.extend([to(2), vec![0, 2], vec![limit], vec![20]]);
     Grid { kind, columns }
 }
 

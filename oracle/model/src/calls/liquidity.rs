@@ -1,14 +1,14 @@
-//! Deposit and withdrawal.
+//! Deposit and withdrawal, with document 02 (b): closed comes before the amount.
 
-use super::{nets, status_bit, sum_or, Accepted};
+use super::{nets, sum_or, Accepted};
 use crate::curve::tokens_for;
 use crate::refusal::*;
 use crate::whole::{whole, ZERO};
 use record::{Pool, Receipt, State};
 
 pub fn deposit(state: &State, lp: u64, maximums: [u64; 2]) -> Accepted {
+    refuse_if(state.pool.status_bit(0), NOT_APPROVED)?;
     refuse_if(lp == 0, UNNAMED_REQUIRE)?;
-    refuse_if(status_bit(&state.pool, 0), NOT_APPROVED)?;
     let amounts = amounts(&state.pool, nets(&state.pool)?, lp, true)?;
     refuse_if((0..2).any(|t| amounts[t] > maximums[t]), EXCEEDED_SLIPPAGE)?;
     let mut after = state.clone();
@@ -19,9 +19,9 @@ pub fn deposit(state: &State, lp: u64, maximums: [u64; 2]) -> Accepted {
     Ok((after, Receipt { kind: 4, paid_in: amounts, lp, ..Receipt::default() }))
 }
 
-/// The first step, LP against the owner's, has passed.
-pub fn withdraw(state: &State, lp: u64, minimums: [u64; 2]) -> Accepted {
-    refuse_if(status_bit(&state.pool, 1), NOT_APPROVED)?;
+pub fn withdraw(state: &State, lp: u64, owned: u64, minimums: [u64; 2]) -> Accepted {
+    refuse_if(state.pool.status_bit(1), NOT_APPROVED)?;
+    refuse_if(lp == 0 || lp > owned, UNNAMED_REQUIRE)?;
     let nets = nets(&state.pool)?;
     let uncapped = amounts(&state.pool, nets, lp, false)?;
     let amounts = [uncapped[0].min(nets[0]), uncapped[1].min(nets[1])];

@@ -1,5 +1,5 @@
-//! Document 01, 'The calls': each is its steps in order, and the first that fails gives
-//! the number.
+//! Document 01, 'The calls', with document 02 (a) and (b): each is its steps in order, and the
+//! first that fails gives the number.
 
 mod liquidity;
 mod opening;
@@ -8,7 +8,7 @@ mod status;
 pub(crate) mod swap;
 
 use crate::fees::MILLION;
-use crate::refusal::{refuse_if, INSUFFICIENT_VAULT, INVALID_INPUT, MATH_OVERFLOW, UNNAMED_REQUIRE};
+use crate::refusal::{refuse_if, INSUFFICIENT_VAULT, INVALID_INPUT, MATH_OVERFLOW};
 use crate::whole::whole;
 use record::{Call, Pool, Rates, Receipt, State};
 
@@ -21,10 +21,7 @@ pub fn accepted(state: &State, call: &Call) -> Accepted {
         Call::SwapByInput(swap) => swap::by_input(state, swap),
         Call::SwapByOutput(swap) => swap::by_output(state, swap),
         Call::Deposit { lp, maximums } => liquidity::deposit(state, *lp, *maximums),
-        Call::Withdrawal { lp, owned, minimums } => {
-            refuse_if(*lp == 0 || lp > owned, UNNAMED_REQUIRE)?;
-            liquidity::withdraw(state, *lp, *minimums)
-        }
+        Call::Withdrawal { lp, owned, minimums } => liquidity::withdraw(state, *lp, *owned, *minimums),
         Call::Settlement { share } => settlement::settle(state, *share),
         Call::Status { bit, flag } => status::set(state, *bit, *flag),
     }
@@ -43,10 +40,6 @@ pub fn rate_limits(rates: &Rates) -> Result<(), u64> {
     let charged = whole(rates.trade) + whole(rates.creator);
     let parts = whole(rates.protocol) + whole(rates.fund);
     refuse_if(charged >= whole(MILLION) || parts > whole(MILLION), INVALID_INPUT)
-}
-
-fn status_bit(pool: &Pool, bit: u32) -> bool {
-    pool.status >> bit & 1 == 1
 }
 
 /// The sum as u64, or this number.

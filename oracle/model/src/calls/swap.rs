@@ -1,6 +1,7 @@
-//! Swap by input and swap by output, with document 02 (a): no swap answers 4.
+//! Swap by input and swap by output. By document 02 (a) no swap answers 4, by (b) closed comes before
+//! the amount.
 
-use super::{nets, rate_limits, status_bit, sum_or, Accepted};
+use super::{nets, rate_limits, sum_or, Accepted};
 use crate::curve::{input_for, output_for};
 use crate::fees::{calculate_pre_fee_amount, fee_rounded_up, part_rounded_down, split_creator_fee};
 use crate::refusal::*;
@@ -26,11 +27,7 @@ struct Quote {
 }
 
 pub fn by_input(state: &State, swap: &Swap) -> Accepted {
-    let pool = &state.pool;
-    rate_limits(&pool.rates)?;
-    open_for_swaps(pool, swap.clock)?;
-    refuse_if(swap.amount == 0, UNNAMED_REQUIRE)?;
-    let terms = terms(pool, swap.direction)?;
+    let terms = terms(&state.pool, swap)?;
     let quote = terms.quote_input(whole(swap.amount))?;
     refuse_if(quote.paid_out == ZERO, UNNAMED_REQUIRE)?;
     refuse_if(quote.paid_out < whole(swap.limit), EXCEEDED_SLIPPAGE)?;
@@ -38,29 +35,25 @@ pub fn by_input(state: &State, swap: &Swap) -> Accepted {
 }
 
 pub fn by_output(state: &State, swap: &Swap) -> Accepted {
-    let pool = &state.pool;
-    rate_limits(&pool.rates)?;
-    refuse_if(swap.amount == 0, UNNAMED_REQUIRE)?;
-    open_for_swaps(pool, swap.clock)?;
-    let terms = terms(pool, swap.direction)?;
+    let terms = terms(&state.pool, swap)?;
     let quote = terms.quote_output(whole(swap.amount))?;
     refuse_if(quote.paid_in > whole(swap.limit), EXCEEDED_SLIPPAGE)?;
     booked(state, 3, swap, &terms, &quote)
 }
 
-fn open_for_swaps(pool: &Pool, clock: u64) -> Result<(), u64> {
-    refuse_if(status_bit(pool, 2) || clock < pool.open_time, NOT_APPROVED)
-}
-
-fn terms(pool: &Pool, direction: u64) -> Result<Terms, u64> {
-    refuse_if(direction > 1, INVALID_VAULT)?;
+/// The tests that both swaps begin with, down to the fee model.
+fn terms(pool: &Pool, swap: &Swap) -> Result<Terms, u64> {
+    rate_limits(&pool.rates)?;
+    refuse_if(pool.status_bit(2) || swap.clock < pool.open_time, NOT_APPROVED)?;
+    refuse_if(swap.amount == 0, UNNAMED_REQUIRE)?;
+    refuse_if(swap.direction > 1, INVALID_VAULT)?;
     let nets = nets(pool)?;
     refuse_if(nets.contains(&0), PANIC)?;
     refuse_if(pool.fee_model > 2, INVALID_FEE_MODEL)?;
     Ok(Terms {
-        token_in: direction as usize,
+        token_in: swap.direction as usize,
         nets: nets.map(whole),
-        fee_on_input: fee_on_input(pool.fee_model, direction),
+        fee_on_input: fee_on_input(pool.fee_model, swap.direction),
         trade_rate: pool.rates.trade,
         creator_rate: if pool.enabled { pool.rates.creator } else { 0 },
     })
