@@ -18,7 +18,7 @@ use Rattle.receipt.specs.Receipt.{refusedBooks, amounts}
 use Rattle.status.specs.Status.{flagged, statusTests, statusAfter}
 use Rattle.receipt.specs.Kind.{SetStatus as statusKind}
 use Rattle.settlement.specs.Settlement.{settlementTests, settlementReceipt, settled, settlementAt, settlementAfter}
-use Rattle.worth.specs.Worth.{part}
+use Rattle.worth.specs.Worth.{amountTests, part}
 use Rattle.liquidity.specs.Liquidity.{depositTests, deposited, depositAt, depositAfter, paid, withdrawTests, withdrawn, withdrawAt, withdrawAfter}
 use Rattle.opening.specs.declared.Opening.{Opening}
 use Rattle.opening.specs.declared.OpeningAfter.{OpeningAfter}
@@ -160,7 +160,7 @@ decides s made ts bad good e r n l z = record {
 
 pub call-decides : (s : State) (c : Call) → Decides s (decision s c) (next s c)
 unfolding next decision refused refusedBooks refusedSwap decisionOf swapBaseInput swapBaseOutput swapAfter inputTests outputTests lastTests acceptedSwap swapReceipt
-    rateLimits counterTests _then_
+    rateLimits counterTests amountTests _then_
     deposit depositAfter depositAt depositTests withdraw withdrawAfter withdrawAt withdrawTests
     settlement settlementAfter settlementAt settlementTests settlementReceipt setStatus statusAfter statusTests amounts
 call-decides s (SwapBaseInput direction amount minimum clock) = decides s (λ a. doneOf (s .entries) (swappedIn (s .pool) a)) _ _ _ refl refl refl refl refl

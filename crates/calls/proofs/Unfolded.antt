@@ -12,6 +12,7 @@ use Rattle.oracle.specs.Ring.{entryAt, withEntry, price, acceptedUpdate}
 use Rattle.receipt.specs.Receipt.{refusal, refusedBooks, amounts}
 use Rattle.status.specs.Status.{flagged, statusTests, statusAfter}
 use Rattle.settlement.specs.Settlement.{settlementTests, settledCounters, settlementReceipt, settlementAt, settlementAfter}
+use Rattle.worth.specs.Worth.{amountTests}
 use Rattle.liquidity.specs.Liquidity.{depositTests, depositAt, depositAfter, withdrawTests, withdrawAt, withdrawAfter}
 use Rattle.opening.specs.Opening.{openingTests, refusedOpening, openingAfter}
 use Rattle.swap.specs.Swap.{lastTests, inputTests, outputTests, refusedSwap, paidBooks, swapReceipt, acceptedSwap, swapAfter}
@@ -23,7 +24,7 @@ use Rattle.calls.specs.Next.{next}
 unfoldable pub all : Unit {0}
 unfolding rootAt root _then_ outcome feeUp feeDown split preFee swapOut swapIn lpAmount onInput inputWithFees curveOutput curveInput charged withFees outputWithFees
     booked entryAt withEntry price acceptedUpdate refusal refusedBooks amounts rateLimits rateTests counterTests flagged statusTests statusAfter
-    settlementTests settledCounters settlementReceipt settlementAt settlementAfter depositTests depositAt depositAfter withdrawTests withdrawAt withdrawAfter
+    settlementTests settledCounters settlementReceipt settlementAt settlementAfter amountTests depositTests depositAt depositAfter withdrawTests withdrawAt withdrawAfter
     openingTests refusedOpening openingAfter lastTests inputTests outputTests refusedSwap paidBooks swapReceipt acceptedSwap swapAfter
     refused zeroPool zeroEntries opening decisionOf swapBaseInput swapBaseOutput deposit withdraw settlement setStatus next
 all = tt

@@ -20,6 +20,7 @@ use Rattle.accounting.specs.Counters.{ofToken, counterTests}
 use Rattle.receipt.specs.declared.Receipt.{Receipt}
 use Rattle.receipt.specs.Receipt.{refusal, amounts}
 use Rattle.settlement.specs.Settlement.{settlementTests, settlementReceipt}
+use Rattle.worth.specs.Worth.{amountTests}
 use Rattle.liquidity.specs.Liquidity.{depositTests, withdrawTests}
 use Rattle.opening.specs.declared.Opening.{Opening}
 use Rattle.quotes.specs.Quotes.{netOut}
@@ -106,7 +107,7 @@ capped-fits : (vault counters amount : ℕ) → vault ≤ U64 → min (vault - c
 capped-fits vault counters amount h = le-trans (min-le-left (vault - counters) amount) (omega arith)
 
 accepted-fits : (s : State) (c : Call) → BooksFit (s .pool .books) → Passed (testsOf s c) → DoneFits (acceptedOf s c)
-unfolding decision depositTests withdrawTests settlementTests settlementReceipt amounts
+unfolding decision depositTests withdrawTests counterTests amountTests _then_ settlementTests settlementReceipt amounts
 accepted-fits s (SwapBaseInput direction amount minimum clock) h t = swap-fits true s direction amount minimum clock h t
 accepted-fits s (SwapBaseOutput direction amount maximum clock) h t = swap-fits false s direction amount maximum clock h t
 accepted-fits s (Deposit lp maximum0 maximum1) h t = record {

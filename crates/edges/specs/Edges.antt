@@ -86,16 +86,15 @@ tradeAndCreator trade creator = record { trade = trade; protocol = 120000; fund 
 abbrev dayRates : ℕ → Rates
 dayRates creator = tradeAndCreator 2500 creator
 
--- 1,000,000 by 4,000,000, at open time 0
+-- 1,000,000 by 4,000,000, open for swaps from this clock on
+abbrev openFrom : ℕ → ℕ → ℕ → Rates → Opening
+openFrom time model enabled rates = record { amount0 = 1000000; amount1 = 4000000; model = model; enabled = enabled; «open_time» = time; rates = rates }
+
 abbrev day : ℕ → ℕ → Rates → Opening
-day model enabled rates = record { amount0 = 1000000; amount1 = 4000000; model = model; enabled = enabled; «open_time» = 0; rates = rates }
+day = openFrom 0
 
 abbrev worked : Opening
 worked = day 0 0 (dayRates 0)
-
--- the worked opening, but open for swaps from this clock on
-abbrev openFrom : ℕ → Opening
-openFrom time = record { amount0 = 1000000; amount1 = 4000000; model = 0; enabled = 0; «open_time» = time; rates = dayRates 0 }
 
 abbrev square : ℕ → Opening
 square amount = record { amount0 = amount; amount1 = amount; model = 0; enabled = 0; «open_time» = 0; rates = dayRates 0 }
@@ -138,7 +137,7 @@ edges =
     ((number, 0) ∷ (paidIn0, 10000) ∷ (paidOut1, 39603) ∷ (tradeFee, 0) ∷ (protocolFee, 0) ∷ (fundFee, 0) ∷ (creatorFee, 0) ∷ (netAfter0, 1010000) ∷ (netAfter1, 3960397) ∷ [])
     -- closed comes before nothing (02 (b)): by output of 0, by status and by open time; deposit of LP 0; withdrawal of LP 0 and of more than the owner's
     ∷ edge worked (closed 2 (SwapBaseOutput 0 0 10000 100)) ((number, 1) ∷ [])
-    ∷ edge (openFrom 101) (call (SwapBaseOutput 0 0 10000 100)) ((number, 1) ∷ [])
+    ∷ edge (openFrom 101 0 0 (dayRates 0)) (call (SwapBaseOutput 0 0 10000 100)) ((number, 1) ∷ [])
     ∷ edge worked (closed 0 (Deposit (lp 0) (tokens 100) (tokens 100))) ((number, 1) ∷ [])
     ∷ edge worked (closed 1 (Withdraw (lp 0) (lp 2000000) (tokens 0) (tokens 0))) ((number, 1) ∷ [])
     ∷ edge worked (closed 1 (Withdraw (lp 3) (lp 2) (tokens 0) (tokens 0))) ((number, 1) ∷ [])

@@ -3,15 +3,15 @@ use Prim.Native.Nat.{ℕ, _+_, _-_, min}
 use mathlib.Core.Bool.{Bool, true, false}
 use mathlib.Core.List.{[], _∷_}
 use lib.Dec.{ltb, eqb}
-use Rattle.refusal.specs.Refusal.{RequireViolated, NotApproved, InsufficientVault, ZeroTradingTokens, Panic, ExceededSlippage, MathOverflow}
-use Rattle.refusal.specs.Tests.{Tests, past, outcome}
+use Rattle.refusal.specs.Refusal.{RequireViolated, NotApproved, Panic, ExceededSlippage, MathOverflow}
+use Rattle.refusal.specs.Tests.{Tests, _then_, past, outcome}
 use Rattle.accounting.specs.declared.Books.{Books}
-use Rattle.accounting.specs.Counters.{counters0, counters1, net0, net1}
+use Rattle.accounting.specs.Counters.{net0, net1, counterTests}
 use Rattle.receipt.specs.declared.BooksAfter.{BooksAfter}
 use Rattle.receipt.specs.Kind.{Deposit, Withdraw}
 use Rattle.receipt.specs.Receipt.{amounts, refusedBooks}
 use Rattle.status.specs.Status.{bit}
-use Rattle.worth.specs.Worth.{part}
+use Rattle.worth.specs.Worth.{amountTests, part}
 
 -- ---- deposit
 -- bit 0 set, 1; lp 0, 10; 8, 7; none or an amount 0, 4; an amount past u64, 11; above a maximum, 2; vault 8; supply past u64, 11
@@ -19,21 +19,14 @@ unfoldable pub depositTests : ℕ → ℕ → ℕ → Books → ℕ → ℕ → 
 depositTests amount0 amount1 status b lp maximum0 maximum1 =
     (bit 0 status, NotApproved)
     ∷ (eqb lp 0, RequireViolated)
-    ∷ (past (counters0 (b .fees)), MathOverflow)
-    ∷ (past (counters1 (b .fees)), MathOverflow)
-    ∷ (ltb (b .vault0) (counters0 (b .fees)), InsufficientVault)
-    ∷ (ltb (b .vault1) (counters1 (b .fees)), InsufficientVault)
-    ∷ (eqb (b .supply) 0, ZeroTradingTokens)
-    ∷ (eqb amount0 0, ZeroTradingTokens)
-    ∷ (eqb amount1 0, ZeroTradingTokens)
-    ∷ (past amount0, Panic)
-    ∷ (past amount1, Panic)
-    ∷ (ltb maximum0 amount0, ExceededSlippage)
+    ∷ (counterTests b
+    then (amountTests amount0 amount1 (b .supply)
+    then ((ltb maximum0 amount0, ExceededSlippage)
     ∷ (ltb maximum1 amount1, ExceededSlippage)
     ∷ (past (b .vault0 + amount0), MathOverflow)
     ∷ (past (b .vault1 + amount1), MathOverflow)
     ∷ (past (b .supply + lp), Panic)
-    ∷ []
+    ∷ [])))
 
 abbrev pub deposited : ℕ → ℕ → Books → ℕ → BooksAfter
 deposited amount0 amount1 b lp = record {
@@ -57,19 +50,12 @@ withdrawTests amount0 amount1 paid0 paid1 status b lp owned minimum0 minimum1 =
     (bit 1 status, NotApproved)
     ∷ (eqb lp 0, RequireViolated)
     ∷ (ltb owned lp, RequireViolated)
-    ∷ (past (counters0 (b .fees)), MathOverflow)
-    ∷ (past (counters1 (b .fees)), MathOverflow)
-    ∷ (ltb (b .vault0) (counters0 (b .fees)), InsufficientVault)
-    ∷ (ltb (b .vault1) (counters1 (b .fees)), InsufficientVault)
-    ∷ (eqb (b .supply) 0, ZeroTradingTokens)
-    ∷ (eqb amount0 0, ZeroTradingTokens)
-    ∷ (eqb amount1 0, ZeroTradingTokens)
-    ∷ (past amount0, Panic)
-    ∷ (past amount1, Panic)
-    ∷ (ltb paid0 minimum0, ExceededSlippage)
+    ∷ (counterTests b
+    then (amountTests amount0 amount1 (b .supply)
+    then ((ltb paid0 minimum0, ExceededSlippage)
     ∷ (ltb paid1 minimum1, ExceededSlippage)
     ∷ (ltb (b .supply) lp, Panic)
-    ∷ []
+    ∷ [])))
 
 abbrev pub withdrawn : ℕ → ℕ → Books → ℕ → BooksAfter
 withdrawn paid0 paid1 b lp = record {

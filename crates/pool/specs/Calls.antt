@@ -1,6 +1,6 @@
 -- Document 01's calls on a pool: each as it is decided over the pool's parts, put back into the pool. The lists of tests, in document 01's
--- order as document 02 changes it, and what is given past all of them stand in `swap` with `quotes`, `liquidity`, `settlement`, `status` and
--- `opening`.
+-- order as document 02 changes it, and what is given past all of them stand in `swap` with `quotes`, in `liquidity` with `accounting` and
+-- `worth`, in `settlement`, `status` and `opening`.
 use Prim.Native.Nat.{ℕ}
 use mathlib.Core.Bool.{Bool, true, false}
 use lib.ListN.{replicate}
