@@ -21,7 +21,7 @@
 extern "C" {
 #endif
 
-/* ---- the pool: 21 numbers; zeros until it is opened */
+/* ---- the pool: 25 numbers; zeros until it is opened */
 enum {
     CP_SWAP_VAULT_0, /* the whole balance of token 0, counters included */
     CP_SWAP_VAULT_1,
@@ -44,6 +44,10 @@ enum {
     CP_SWAP_RING_USED, /* 0 or 1 */
     CP_SWAP_RING_INDEX, /* the newest entry, 0 to 99 */
     CP_SWAP_RING_MARK, /* the clock up to which the sums count */
+    CP_SWAP_POINTS_0, /* the charge on a transfer: points per 10,000, rounded up, */
+    CP_SWAP_MAXIMUM_0, /* at most this and at most the amount */
+    CP_SWAP_POINTS_1,
+    CP_SWAP_MAXIMUM_1,
     CP_SWAP_POOL_LENGTH
 };
 
@@ -58,15 +62,15 @@ enum {
 };
 enum { CP_SWAP_RING_ENTRIES = 100, CP_SWAP_RING_LENGTH = 500 };
 
-/* ---- a receipt: 16 numbers, 0 where one has no meaning */
+/* ---- a receipt: 18 numbers, 0 where one has no meaning */
 enum {
     CP_SWAP_NUMBER, /* 0, or the number of a refusal and then zeros */
     CP_SWAP_KIND,   /* 1 opening, 2 and 3 swaps, 4 deposit, 5 withdrawal, 6 settlement, 7 status */
     CP_SWAP_DIRECTION, /* of a swap: 0 where token 0 goes in, 1 where token 1 does */
     CP_SWAP_CLOCK,
-    CP_SWAP_IN_0, /* paid into the pool */
+    CP_SWAP_IN_0, /* reached the vault; sent was this and the charge */
     CP_SWAP_IN_1,
-    CP_SWAP_OUT_0, /* paid out of it */
+    CP_SWAP_OUT_0, /* left the vault; received is this less the charge */
     CP_SWAP_OUT_1,
     CP_SWAP_LP, /* issued by an opening or a deposit, burnt by a withdrawal */
     CP_SWAP_TRADE_FEE, /* in the token that goes in */
@@ -76,6 +80,8 @@ enum {
     CP_SWAP_CREATOR_FEE_TOKEN, /* the token of the creator fee, by fee model and direction */
     CP_SWAP_SHARED_0, /* of a settlement: what went to the protocol's counters */
     CP_SWAP_SHARED_1,
+    CP_SWAP_CHARGE_0, /* the charge on the transfer of either token */
+    CP_SWAP_CHARGE_1,
     CP_SWAP_RECEIPT_LENGTH
 };
 
@@ -110,15 +116,17 @@ enum {
     CP_SWAP_INSUFFICIENT_VAULT = 7,
     CP_SWAP_MATH_OVERFLOW = 8,
     CP_SWAP_INVALID_FEE_MODEL = 9,
-    CP_SWAP_REQUIRE_VIOLATED = 10, /* an amount is 0, or LP above the owner's */
+    CP_SWAP_REQUIRE_VIOLATED = 10, /* an amount is 0, of a swap what arrives or is received, or LP
+                                    * above the owner's */
     CP_SWAP_PANIC = 11, /* the original program would have panicked */
     CP_SWAP_UNREADABLE_ROW = 12,
-    CP_SWAP_INIT_LP_AMOUNT_TOO_LESS = 13
+    CP_SWAP_INIT_LP_AMOUNT_TOO_LESS = 13,
+    CP_SWAP_TRANSFER_FEE_CALCULATE_NOT_MATCH = 14 /* no u64 can be sent that leaves the wanted amount */
 };
 
 /* ---- what a pool is opened with */
 struct cp_swap_opening {
-    uint64_t amount_0;
+    uint64_t amount_0; /* as they arrived: an opening bears no charge */
     uint64_t amount_1;
     uint64_t fee_model;  /* creator fee on: 0 the input, 1 token 0, 2 token 1 */
     uint64_t enabled;    /* 1 where creator fees are charged, else 0 */
@@ -128,6 +136,10 @@ struct cp_swap_opening {
     uint64_t fund_rate;
     uint64_t creator_rate;
     uint64_t share_rate;
+    uint64_t points_0; /* charges on transfers: points per 10,000, at most 9,999 */
+    uint64_t maximum_0;
+    uint64_t points_1;
+    uint64_t maximum_1;
 };
 
 /* ---- directions and status */
@@ -138,43 +150,44 @@ enum { CP_SWAP_OPEN = 0, CP_SWAP_CLOSED = 1 };
 /* ---- the calls */
 
 /* A new pool in place of what the memory holds. */
-uint64_t cp_swap_open(uint64_t pool[21], uint64_t ring[500], uint64_t receipt[16],
+uint64_t cp_swap_open(uint64_t pool[25], uint64_t ring[500], uint64_t receipt[18],
                       const struct cp_swap_opening *opening);
 
-/* Pays `amount` in, and out what the curve gives for it, at least `minimum`. */
-uint64_t cp_swap_base_input(uint64_t pool[21], uint64_t ring[500], uint64_t receipt[16],
+/* Sends `amount` in, and out what the curve gives for what arrives; at least `minimum` is received. */
+uint64_t cp_swap_base_input(uint64_t pool[25], uint64_t ring[500], uint64_t receipt[18],
                             uint64_t direction, uint64_t amount, uint64_t minimum, uint64_t clock);
 
-/* Pays `amount` out, and in what that costs, at most `maximum`. */
-uint64_t cp_swap_base_output(uint64_t pool[21], uint64_t ring[500], uint64_t receipt[16],
+/* Pays out so much that `amount` is received, and takes in what that costs; at most `maximum` is
+ * sent. */
+uint64_t cp_swap_base_output(uint64_t pool[25], uint64_t ring[500], uint64_t receipt[18],
                              uint64_t direction, uint64_t amount, uint64_t maximum, uint64_t clock);
 
-/* Issues `lp` LP tokens for both trading tokens. */
-uint64_t cp_swap_deposit(uint64_t pool[21], uint64_t ring[500], uint64_t receipt[16],
+/* Issues `lp` LP tokens for both trading tokens, of which at most the maximums are sent. */
+uint64_t cp_swap_deposit(uint64_t pool[25], uint64_t ring[500], uint64_t receipt[18],
                          uint64_t lp, uint64_t maximum_0, uint64_t maximum_1);
 
-/* Takes `lp` LP tokens back from an owner who holds `owned`. */
-uint64_t cp_swap_withdraw(uint64_t pool[21], uint64_t ring[500], uint64_t receipt[16],
+/* Takes `lp` LP tokens back from an owner who holds `owned` and receives at least the minimums. */
+uint64_t cp_swap_withdraw(uint64_t pool[25], uint64_t ring[500], uint64_t receipt[18],
                           uint64_t lp, uint64_t owned, uint64_t minimum_0, uint64_t minimum_1);
 
 /* Pays the creators out; `share` millionths of their fees go to the protocol's counters. */
-uint64_t cp_swap_settle_creator_fee(uint64_t pool[21], uint64_t ring[500], uint64_t receipt[16],
+uint64_t cp_swap_settle_creator_fee(uint64_t pool[25], uint64_t ring[500], uint64_t receipt[18],
                                     uint64_t share);
 
 /* Opens (flag 0) or closes (flag 1) what the bit stands for. */
-uint64_t cp_swap_set_status(uint64_t pool[21], uint64_t ring[500], uint64_t receipt[16],
+uint64_t cp_swap_set_status(uint64_t pool[25], uint64_t ring[500], uint64_t receipt[18],
                             uint64_t bit, uint64_t flag);
 
 /* The vaults less their counters: what the LP tokens are worth together. Where it is refused the
  * nets are left as they were. */
-uint64_t cp_swap_nets(const uint64_t pool[21], uint64_t nets[2]);
+uint64_t cp_swap_nets(const uint64_t pool[25], uint64_t nets[2]);
 
 /* ---- the day sheet
  *
  * Rows in, a row out for each. A row is a number in 2 columns and five in 20 each, decimal and
  * right-justified, and a newline; numbers that a kind does not use are 0. The kinds:
  *   0 rates for the next openings: trade, protocol, fund, creator, share
- *   1 opening: amount 0, amount 1, fee model, enabled, open time
+ *   1 opening: amount 0, amount 1, fee model, enabled, open time; transfers are not charged
  *   2 swap by input: direction, amount, minimum, clock
  *   3 swap by output: direction, amount, maximum, clock
  *   4 deposit: LP, maximum 0, maximum 1
@@ -191,13 +204,13 @@ uint64_t cp_swap_nets(const uint64_t pool[21], uint64_t nets[2]);
 /* A piece of the input: takes bytes as long as the output has room for another row of 103, and writes
  * the answer of each row that they end. What stands in the output after these rows is left as it is.
  * Answers 0, or 3 where the record is no pool; then nothing was written. */
-uint64_t cp_swap_day_sheet(uint64_t pool[21], uint64_t ring[500], uint64_t sheet[6],
+uint64_t cp_swap_day_sheet(uint64_t pool[25], uint64_t ring[500], uint64_t sheet[6],
                            uint8_t held[103], const uint8_t *input, size_t input_length,
                            uint8_t *output, size_t output_length, uint64_t progress[2]);
 
 /* The end of the input: answers its last row, where that has no newline. The progress is 0 and the
  * bytes written, 0 or 103. No row is begun after it. Answers as above. */
-uint64_t cp_swap_day_sheet_end(uint64_t pool[21], uint64_t ring[500], uint64_t sheet[6],
+uint64_t cp_swap_day_sheet_end(uint64_t pool[25], uint64_t ring[500], uint64_t sheet[6],
                                const uint8_t held[103], uint8_t output[103], uint64_t progress[2]);
 
 #ifdef __cplusplus

@@ -1,4 +1,5 @@
-/* A pool's first day: opened, swapped both ways, a deposit, and a call that is refused. */
+/* A pool's first day: opened, swapped both ways, a deposit, and a call that is refused. Then a pool
+ * whose tokens are charged. */
 #include "cp_swap.h"
 
 #include <inttypes.h>
@@ -16,9 +17,10 @@ static void show(const char *call, uint64_t number)
         exit(EXIT_FAILURE);
     }
     if (number == CP_SWAP_ACCEPTED) {
-        printf("%s: in %" PRIu64 " and %" PRIu64 ", out %" PRIu64 " and %" PRIu64, call,
-               receipt[CP_SWAP_IN_0], receipt[CP_SWAP_IN_1], receipt[CP_SWAP_OUT_0],
-               receipt[CP_SWAP_OUT_1]);
+        printf("%s: in %" PRIu64 " and %" PRIu64 ", out %" PRIu64 " and %" PRIu64
+               ", charges %" PRIu64 " and %" PRIu64,
+               call, receipt[CP_SWAP_IN_0], receipt[CP_SWAP_IN_1], receipt[CP_SWAP_OUT_0],
+               receipt[CP_SWAP_OUT_1], receipt[CP_SWAP_CHARGE_0], receipt[CP_SWAP_CHARGE_1]);
     } else {
         printf("%s: refused with %" PRIu64, call, number);
     }
@@ -28,7 +30,7 @@ static void show(const char *call, uint64_t number)
 
 int main(void)
 {
-    const struct cp_swap_opening opening = {
+    struct cp_swap_opening opening = {
         .amount_0 = 1000000,
         .amount_1 = 4000000,
         .trade_rate = 2500,
@@ -44,5 +46,14 @@ int main(void)
     show("closing the swaps", cp_swap_set_status(pool, ring, receipt, CP_SWAP_SWAPS, CP_SWAP_CLOSED));
     show("swap by input", cp_swap_base_input(pool, ring, receipt, CP_SWAP_0_FOR_1, 10000, 1, 130));
     show("withdrawal", cp_swap_withdraw(pool, ring, receipt, 2001000, 2001000, 0, 0));
+
+    opening.points_0 = 100;
+    opening.maximum_0 = 50;
+    opening.points_1 = 25;
+    opening.maximum_1 = UINT64_MAX;
+    show("opening with charges", cp_swap_open(pool, ring, receipt, &opening));
+    show("10000 sent for at least 39210",
+         cp_swap_base_input(pool, ring, receipt, CP_SWAP_0_FOR_1, 10000, 39210, 100));
+    show("1 sent", cp_swap_base_input(pool, ring, receipt, CP_SWAP_0_FOR_1, 1, 0, 115));
     return EXIT_SUCCESS;
 }

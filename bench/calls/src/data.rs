@@ -2,7 +2,7 @@
 
 use beside::random::Random;
 use port::Port;
-use record::{filled_ring, Call, Opening, Pool, Rates, RingHead, State, Swap};
+use record::{filled_ring, Call, Charge, Opening, Pool, Rates, RingHead, State, Swap};
 
 #[derive(Clone, Copy, PartialEq, Eq)]
 pub enum Amounts {
@@ -132,6 +132,8 @@ impl Bench {
             enabled: random.below(2),
             open_time: 0,
             rates: rates(random),
+            // As in every pool of the benchmark: the original has no charges to be timed beside.
+            charges: [Charge::default(); 2],
         }
     }
 }

@@ -1,6 +1,6 @@
 //! The plain program gives document 01's example, and the answers of the rules' model to any list.
 
-use beside::generator::list;
+use beside::generator::{charges, list};
 use beside::random::Random;
 use record::{Call, Case, State};
 
@@ -60,10 +60,11 @@ fn rows_that_cannot_be_read() {
     }
 }
 
-/// A list as a sheet: the arguments of an opening and a settlement are partly the sheet's rates.
+/// A list as a sheet: the arguments of an opening and a settlement are partly the sheet's rates, and the
+/// sheet's tokens are not charged.
 fn rows_of(call: &Call, case: &Case) -> String {
     match call {
-        Call::Opening(_) => row(0, &case.columns[5..]) + &row(1, &case.columns[..5]),
+        Call::Opening(_) => row(0, &case.columns[5..10]) + &row(1, &case.columns[..5]),
         Call::Settlement { .. } => row(6, &[]),
         _ => row(case.kind, case.arguments()),
     }
@@ -75,7 +76,7 @@ fn lists_of_calls() {
     let (mut sheet, mut expected) = (String::new(), String::new());
     let mut state = model::empty();
     for _ in 0..400 {
-        let opening = next(list::opening(&mut random), &mut state, &mut sheet, &mut expected);
+        let opening = next(list::opening(&mut random, charges::none), &mut state, &mut sheet, &mut expected);
         for _ in 0..if opening == 0 { 40 } else { 0 } {
             let case = list::call(&mut random, &state);
             next(case, &mut state, &mut sheet, &mut expected);

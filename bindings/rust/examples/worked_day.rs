@@ -1,6 +1,7 @@
-//! A pool's first day: opened, swapped both ways, a deposit, and a call that is refused.
+//! A pool's first day: opened, swapped both ways, a deposit, and a call that is refused. Then a pool
+//! whose tokens are charged.
 
-use cp_swap::{Direction, Opening, Pool, Rates, Receipt, Refusal, Ring, StatusBit};
+use cp_swap::{Charge, Direction, Opening, Pool, Rates, Receipt, Refusal, Ring, StatusBit};
 
 fn main() -> Result<(), Refusal> {
     let (mut pool, mut ring) = (Pool::default(), Ring::default());
@@ -20,14 +21,23 @@ fn main() -> Result<(), Refusal> {
     let answer = pool.swap_base_input(&mut ring, Direction::ZeroForOne, 10_000, 1, 130);
     show("swap by input", &pool, answer)?;
     let answer = pool.withdraw(&mut ring, 2_001_000, 2_001_000, [0, 0]);
-    show("withdrawal", &pool, answer)
+    show("withdrawal", &pool, answer)?;
+
+    let charges = [Charge { points: 100, maximum: 50 }, Charge { points: 25, maximum: u64::MAX }];
+    let answer = pool.open(&mut ring, &Opening { charges, ..opening });
+    show("opening with charges", &pool, answer)?;
+    let answer = pool.swap_base_input(&mut ring, Direction::ZeroForOne, 10_000, 39_210, 100);
+    show("10000 sent for at least 39210", &pool, answer)?;
+    let answer = pool.swap_base_input(&mut ring, Direction::ZeroForOne, 1, 0, 115);
+    show("1 sent", &pool, answer)
 }
 
 fn show(call: &str, pool: &Pool, answer: Result<Receipt, Refusal>) -> Result<(), Refusal> {
     let [net_0, net_1] = pool.nets()?;
     match answer {
-        Ok(Receipt { paid_in, paid_out, .. }) => {
-            print!("{call}: in {} and {}, out {} and {}", paid_in[0], paid_in[1], paid_out[0], paid_out[1])
+        Ok(Receipt { paid_in, paid_out, charges, .. }) => {
+            print!("{call}: in {} and {}, ", paid_in[0], paid_in[1]);
+            print!("out {} and {}, charges {} and {}", paid_out[0], paid_out[1], charges[0], charges[1])
         }
         Err(refusal) => print!("{call}: refused with {}", refusal.number()),
     }

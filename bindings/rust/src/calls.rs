@@ -1,7 +1,7 @@
 //! The calls on a pool.
 
 use crate::plain;
-use crate::{Pool, Rates, Receipt, Refusal, Ring};
+use crate::{Charge, Pool, Rates, Receipt, Refusal, Ring};
 
 /// Which token goes in.
 #[derive(Clone, Copy, Debug, PartialEq, Eq)]
@@ -41,7 +41,7 @@ pub enum StatusBit {
 /// What a pool is opened with; the opener holds the whole LP supply.
 #[derive(Clone, Copy, Debug, Default, PartialEq, Eq)]
 pub struct Opening {
-    /// Of either token.
+    /// Of either token, as they arrived: an opening bears no charge.
     pub amounts: [u64; 2],
     /// Where creators' fees are taken.
     pub fee_model: FeeModel,
@@ -51,16 +51,19 @@ pub struct Opening {
     pub open_time: u64,
     /// In millionths.
     pub rates: Rates,
+    /// What transfers of either token are charged.
+    pub charges: [Charge; 2],
 }
 
 impl Opening {
-    /// The library's ten numbers.
+    /// The library's fourteen numbers.
     fn words(&self) -> plain::OpeningWords {
-        let Opening { amounts: [amount_0, amount_1], fee_model, enabled, open_time, rates } = *self;
+        let Opening { amounts, fee_model, enabled, open_time, rates, charges } = *self;
         let Rates { trade, protocol, fund, creator, share } = rates;
+        let [charge_0, charge_1] = charges;
         [
-            amount_0,
-            amount_1,
+            amounts[0],
+            amounts[1],
             fee_model as u64,
             enabled.into(),
             open_time,
@@ -69,6 +72,10 @@ impl Opening {
             fund,
             creator,
             share,
+            charge_0.points,
+            charge_0.maximum,
+            charge_1.points,
+            charge_1.maximum,
         ]
     }
 }
@@ -83,7 +90,7 @@ impl Pool {
         self.call(ring, |pool, ring, receipt| plain::open(pool, ring, receipt, &opening))
     }
 
-    /// Pays `amount` in, and out what the curve gives for it, at least `minimum`.
+    /// Sends `amount` in, and out what the curve gives for what arrives; at least `minimum` is received.
     pub fn swap_base_input(
         &mut self,
         ring: &mut Ring,
@@ -97,7 +104,7 @@ impl Pool {
         })
     }
 
-    /// Pays `amount` out, and in what that costs, at most `maximum`.
+    /// Pays out so much that `amount` is received, and takes in what that costs; at most `maximum` is sent.
     pub fn swap_base_output(
         &mut self,
         ring: &mut Ring,
@@ -111,12 +118,12 @@ impl Pool {
         })
     }
 
-    /// Issues `lp` LP tokens for at most these amounts of both tokens.
+    /// Issues `lp` LP tokens; of both tokens at most these amounts are sent.
     pub fn deposit(&mut self, ring: &mut Ring, lp: u64, maximums: [u64; 2]) -> Answer {
         self.call(ring, |pool, ring, receipt| plain::deposit(pool, ring, receipt, lp, maximums))
     }
 
-    /// Takes `lp` LP tokens back, of an owner who holds `owned`, for at least these amounts.
+    /// Takes `lp` LP tokens back, of an owner who holds `owned` and receives at least these amounts.
     pub fn withdraw(&mut self, ring: &mut Ring, lp: u64, owned: u64, minimums: [u64; 2]) -> Answer {
         self.call(ring, |pool, ring, receipt| plain::withdraw(pool, ring, receipt, lp, owned, minimums))
     }

@@ -1,6 +1,9 @@
 //! What an accepted call says of itself.
 
 /// Amounts, fees and LP of an accepted call; 0 where one has no meaning.
+///
+/// The amounts are what reached or left the vaults. Where transfers are charged the caller sent what was
+/// paid in and the charge on it, and receives what was paid out less the charge on it.
 #[repr(C)]
 #[derive(Clone, Copy, Debug, Default, PartialEq, Eq)]
 pub struct Receipt {
@@ -12,9 +15,9 @@ pub struct Receipt {
     pub direction: u64,
     /// Of a swap.
     pub clock: u64,
-    /// What was paid into the pool of either token.
+    /// What reached the vault of either token.
     pub paid_in: [u64; 2],
-    /// What was paid out of the pool of either token.
+    /// What left the vault of either token.
     pub paid_out: [u64; 2],
     /// LP tokens issued or taken back.
     pub lp: u64,
@@ -30,4 +33,6 @@ pub struct Receipt {
     pub creator_fee_token: u64,
     /// What a settlement moved to the protocol's counters.
     pub shared: [u64; 2],
+    /// The charge on the transfer of either token.
+    pub charges: [u64; 2],
 }

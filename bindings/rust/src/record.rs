@@ -28,7 +28,18 @@ pub struct RingHead {
     pub mark: u64,
 }
 
-/// All that a pool is, but for its ring's entries: 21 numbers, plain to store and to compare.
+/// What a transfer of a token is charged: `points` per 10,000 of the amount, rounded up, at most `maximum`
+/// and at most the amount. Points 0 or a maximum of 0 charge nothing.
+#[repr(C)]
+#[derive(Clone, Copy, Debug, Default, PartialEq, Eq)]
+pub struct Charge {
+    /// Per 10,000; an opening takes at most 9,999.
+    pub points: u64,
+    /// The most that a transfer is charged.
+    pub maximum: u64,
+}
+
+/// All that a pool is, but for its ring's entries: 25 numbers, plain to store and to compare.
 ///
 /// A pool begins with [`Pool::open`] on any record, a default one as well. Records with any numbers
 /// may be built by hand: a call on them is accepted or refused by the same rules.
@@ -57,17 +68,19 @@ pub struct Pool {
     pub rates: Rates,
     /// Where its ring stands.
     pub ring: RingHead,
+    /// What transfers of either token are charged.
+    pub charges: [Charge; 2],
 }
 
 impl Pool {
     /// The record as the library has it.
-    pub fn words(&self) -> [u64; 21] {
+    pub fn words(&self) -> [u64; 25] {
         let mut copy = *self;
         *copy.words_mut()
     }
 
     /// A record from its numbers, whatever they are.
-    pub fn from_words(words: [u64; 21]) -> Pool {
+    pub fn from_words(words: [u64; 25]) -> Pool {
         let mut pool = Pool::default();
         *pool.words_mut() = words;
         pool

@@ -11,7 +11,7 @@ pub enum Refusal {
     NotApproved = 1,
     /// An amount is beyond the caller's limit.
     ExceededSlippage = 2,
-    /// A rate, flag, bit or share is out of range.
+    /// A rate, flag, bit, share or a charge's points are out of range.
     InvalidInput = 3,
     /// An amount of a deposit or withdrawal would be 0, or the supply is. No swap answers it.
     ZeroTradingTokens = 4,
@@ -25,7 +25,8 @@ pub enum Refusal {
     MathOverflow = 8,
     /// The fee model is above 2.
     InvalidFeeModel = 9,
-    /// A check that the original has no name for.
+    /// A check that the original has no name for: an amount is 0, of a swap what arrives or is received, or
+    /// LP tokens are not the owner's.
     RequireViolated = 10,
     /// The original would panic.
     Panic = 11,
@@ -33,11 +34,13 @@ pub enum Refusal {
     UnreadableRow = 12,
     /// An opening whose LP supply would be below 101.
     InitLpAmountTooLess = 13,
+    /// No u64 can be sent that leaves the wanted amount after the charge on it.
+    TransferFeeCalculateNotMatch = 14,
 }
 
 impl Refusal {
     /// All of them, in the order of their numbers.
-    pub const ALL: [Refusal; 13] = [
+    pub const ALL: [Refusal; 14] = [
         Refusal::NotApproved,
         Refusal::ExceededSlippage,
         Refusal::InvalidInput,
@@ -51,9 +54,10 @@ impl Refusal {
         Refusal::Panic,
         Refusal::UnreadableRow,
         Refusal::InitLpAmountTooLess,
+        Refusal::TransferFeeCalculateNotMatch,
     ];
 
-    /// The refusal's number, 1 to 13.
+    /// The refusal's number, 1 to 14.
     pub fn number(self) -> u64 {
         self as u64
     }
@@ -68,7 +72,7 @@ impl Refusal {
         match self {
             Refusal::NotApproved => "the pool is closed for such calls, or not yet open",
             Refusal::ExceededSlippage => "the price is beyond the caller's limit",
-            Refusal::InvalidInput => "a rate, flag, status bit or share is out of range",
+            Refusal::InvalidInput => "a rate, flag, status bit, share or points are out of range",
             Refusal::ZeroTradingTokens => "an amount of tokens would be none",
             Refusal::InvalidVault => "the direction is neither 0 nor 1",
             Refusal::EmptySupply => "an opening without tokens",
@@ -79,6 +83,7 @@ impl Refusal {
             Refusal::Panic => "the original would panic: a net of 0, or a result past its width",
             Refusal::UnreadableRow => "the row cannot be read",
             Refusal::InitLpAmountTooLess => "the opening's supply is below 101",
+            Refusal::TransferFeeCalculateNotMatch => "no u64 can be sent that leaves the wanted amount",
         }
     }
 }

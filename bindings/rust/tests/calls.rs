@@ -1,8 +1,9 @@
 //! Each call once accepted and once refused, on the pool of the rules' worked example.
 
-use cp_swap::{Answer, Direction, FeeModel, Opening, Pool, Rates, Receipt, Refusal, Ring, StatusBit};
+use cp_swap::{Answer, Charge, Direction, FeeModel, Opening, Pool, Rates, Receipt, Refusal, Ring, StatusBit};
 
 const RATES: Rates = Rates { trade: 2_500, protocol: 120_000, fund: 40_000, creator: 0, share: 0 };
+const CHARGES: [Charge; 2] = [Charge { points: 100, maximum: 50 }, Charge { points: 25, maximum: u64::MAX }];
 const MOST: [u64; 2] = [u64::MAX; 2];
 
 fn opened_with(opening: Opening) -> (Pool, Ring) {
@@ -19,9 +20,20 @@ fn opened() -> (Pool, Ring) {
     opened_with(opening())
 }
 
+fn charged() -> (Pool, Ring) {
+    opened_with(Opening { charges: CHARGES, ..opening() })
+}
+
 /// Refused with this, and neither pool nor ring is changed.
-fn refuses(refusal: Refusal, call: impl FnOnce(&mut Pool, &mut Ring) -> Result<Receipt, Refusal>) {
-    let (mut pool, mut ring) = opened();
+fn refuses(refusal: Refusal, call: impl FnOnce(&mut Pool, &mut Ring) -> Answer) {
+    refuses_on(opened(), refusal, call);
+}
+
+fn refuses_on(
+    (mut pool, mut ring): (Pool, Ring),
+    refusal: Refusal,
+    call: impl FnOnce(&mut Pool, &mut Ring) -> Answer,
+) {
     let before = (pool, ring.clone());
     assert_eq!(call(&mut pool, &mut ring), Err(refusal));
     assert_eq!((pool, ring), before);
@@ -213,4 +225,84 @@ fn only_swaps_wait_for_the_open_time() {
     let [by_input, by_output, liquidity @ ..] = for_nothing(&mut pool, &mut ring);
     assert_eq!([by_input, by_output], [Err(Refusal::NotApproved); 2]);
     assert_eq!(liquidity, [Err(Refusal::RequireViolated); 3]);
+}
+
+#[test]
+fn an_opening_bears_no_charge() {
+    let (mut pool, mut ring) = (Pool::default(), Ring::default());
+    let receipt = pool.open(&mut ring, &Opening { charges: CHARGES, ..opening() });
+    let expected = Receipt { kind: 1, paid_in: [1_000_000, 4_000_000], lp: 2_000_000, ..Receipt::default() };
+    assert_eq!((receipt, pool.charges), (Ok(expected), CHARGES));
+    let at = |points| [CHARGES[0], Charge { points, maximum: 0 }];
+    opened_with(Opening { charges: at(9_999), ..opening() });
+    refuses(Refusal::InvalidInput, |pool, ring| {
+        pool.open(ring, &Opening { charges: at(10_000), ..opening() })
+    });
+}
+
+/// 10,000 are sent and 9,950 arrive; 39,309 leave and 39,210 are received.
+#[test]
+fn limits_of_swaps_look_at_what_is_sent_and_received() {
+    let direction = Direction::ZeroForOne;
+    let swapped = |kind, answer: Answer| {
+        let receipt = answer.expect("the swap is accepted");
+        assert_eq!((receipt.kind, receipt.paid_in, receipt.paid_out), (kind, [9_950, 0], [0, 39_309]));
+        assert_eq!(receipt.charges, [50, 99]);
+    };
+    let (mut pool, mut ring) = charged();
+    swapped(2, pool.swap_base_input(&mut ring, direction, 10_000, 39_210, 100));
+    assert_eq!(pool.vaults, [1_009_950, 3_960_691]);
+    let (mut pool, mut ring) = charged();
+    swapped(3, pool.swap_base_output(&mut ring, direction, 39_210, 10_000, 100));
+    assert_eq!(pool.vaults, [1_009_950, 3_960_691]);
+    refuses_on(charged(), Refusal::ExceededSlippage, |pool, ring| {
+        pool.swap_base_input(ring, direction, 10_000, 39_211, 100)
+    });
+    refuses_on(charged(), Refusal::ExceededSlippage, |pool, ring| {
+        pool.swap_base_output(ring, direction, 39_210, 9_999, 100)
+    });
+    refuses_on(charged(), Refusal::RequireViolated, |pool, ring| {
+        pool.swap_base_input(ring, direction, 1, 0, 100)
+    });
+}
+
+#[test]
+fn limits_of_deposits_and_withdrawals_look_at_what_is_sent_and_received() {
+    let (mut pool, mut ring) = charged();
+    let deposit = pool.deposit(&mut ring, 10_000, [5_050, 20_051]).expect("the deposit is accepted");
+    assert_eq!((deposit.paid_in, deposit.charges), ([5_000, 20_000], [50, 51]));
+    let (mut pool, mut ring) = charged();
+    let withdrawal = pool.withdraw(&mut ring, 10_000, 10_000, [4_950, 19_950]);
+    let withdrawal = withdrawal.expect("the withdrawal is accepted");
+    assert_eq!((withdrawal.paid_out, withdrawal.charges), ([5_000, 20_000], [50, 50]));
+    for maximums in [[5_049, 20_051], [5_050, 20_050]] {
+        refuses_on(charged(), Refusal::ExceededSlippage, |pool, ring| pool.deposit(ring, 10_000, maximums));
+    }
+    for minimums in [[4_951, 19_950], [4_950, 19_951]] {
+        refuses_on(charged(), Refusal::ExceededSlippage, |pool, ring| {
+            pool.withdraw(ring, 10_000, 10_000, minimums)
+        });
+    }
+}
+
+#[test]
+fn a_settlement_shows_its_charge() {
+    let rates = Rates { creator: 1_000, ..RATES };
+    let (mut pool, mut ring) = opened_with(Opening { enabled: true, rates, charges: CHARGES, ..opening() });
+    pool.swap_base_input(&mut ring, Direction::ZeroForOne, 10_000, 1, 100).expect("the swap is accepted");
+    let owed = pool.creator_fees[0];
+    let receipt = pool.settle_creator_fee(&mut ring, 0).expect("the settlement is accepted");
+    assert_eq!((owed, receipt.paid_out, receipt.charges), (10, [10, 0], [1, 0]));
+}
+
+/// Of a token that is charged up to 50, the most that can arrive is 2^64 - 51.
+#[test]
+fn what_cannot_be_sent_for_is_refused() {
+    let wanted = |amount| {
+        move |pool: &mut Pool, ring: &mut Ring| {
+            pool.swap_base_output(ring, Direction::OneForZero, amount, u64::MAX, 100)
+        }
+    };
+    refuses_on(charged(), Refusal::Panic, wanted(u64::MAX - 50));
+    refuses_on(charged(), Refusal::TransferFeeCalculateNotMatch, wanted(u64::MAX - 49));
 }

@@ -163,7 +163,7 @@ fn a_refused_opening_keeps_the_pool() {
 #[test]
 fn a_record_that_is_no_pool_is_refused() {
     for flag in [12, 18] {
-        let (mut pool, mut ring) = ([0; 21], [0; 500]);
+        let (mut pool, mut ring) = ([0; 25], [0; 500]);
         pool[flag] = 2;
         let (mut sheet, mut held) = ([5; 6], [b'h'; ROW_LENGTH]);
         let (mut output, mut progress) = ([b'#'; ROW_LENGTH], [7; 2]);
@@ -179,7 +179,7 @@ fn a_record_that_is_no_pool_is_refused() {
 
 #[test]
 fn no_more_than_a_row_is_held() {
-    let (mut pool, mut ring) = ([0; 21], [0; 500]);
+    let (mut pool, mut ring) = ([0; 25], [0; 500]);
     let (mut sheet, mut held) = ([0, 0, 0, 0, 0, u64::MAX], [b'h'; ROW_LENGTH]);
     let (mut output, mut progress) = ([0; ROW_LENGTH], [7; 2]);
     let fed = plain::day_sheet(&mut pool, &mut ring, &mut sheet, &mut held, b"h", &mut output, &mut progress);

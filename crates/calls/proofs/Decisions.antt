@@ -11,6 +11,8 @@ use Rattle.fees.specs.Fees.{feeDown}
 use Rattle.rates.specs.Rates.{rateLimits, onInput}
 use Rattle.calculator.specs.declared.SwapResult.{SwapResult}
 use Rattle.accounting.specs.Counters.{counterTests}
+use Rattle.charge.specs.declared.Charged.{Charged}
+use Rattle.charge.specs.Charge.{restOf, leastSent, nothingCharged, chargedOn}
 use Rattle.accounting.specs.Booking.{creatorToken, booked}
 use Rattle.oracle.specs.Ring.{newest, price}
 use Rattle.receipt.specs.Kind.{Opening as kind}
@@ -23,7 +25,7 @@ use Rattle.liquidity.specs.Liquidity.{depositTests, deposited, depositAt, depos
 use Rattle.opening.specs.declared.Opening.{Opening}
 use Rattle.opening.specs.declared.OpeningAfter.{OpeningAfter}
 use Rattle.opening.specs.Opening.{supplyOf, openingTests, booksWith, openedTerms, refusedOpening, openingAfter}
-use Rattle.quotes.specs.Quotes.{resultOf}
+use Rattle.quotes.specs.Quotes.{vaultAmount, chargedOf, resultOf}
 use Rattle.swap.specs.Swap.{lastTests, inputTests, outputTests, swapTests, refusedSwap, swapReceipt, acceptedSwap, swapAfter}
 use Rattle.pool.specs.State.{net0, net1, startWith, refused, bookedIn, standingIn, swappedIn, Done, doneOf}
 use Rattle.pool.specs.Calls.{zeroPool, zeroEntries, opening, decisionOf, swapBaseInput, swapBaseOutput, deposit, withdraw, settlement, setStatus}
@@ -41,14 +43,19 @@ abbrev pub feeOnInput : State → ℕ → Bool
 feeOnInput s direction = onInput (s .pool .terms .«fee_model») (eqb direction 0)
 
 abbrev pub swapOf : Bool → State → ℕ → ℕ → SwapResult
-swapOf byInput s direction amount = resultOf byInput (s .pool .terms) (s .pool .books) (eqb direction 0) amount
+swapOf byInput s direction amount =
+    resultOf byInput (s .pool .terms) (s .pool .books) (eqb direction 0) (vaultAmount byInput (s .pool .terms) (eqb direction 0) amount)
 
-abbrev pub acceptedAt : Bool → State → Bool → Bool → SwapResult → ℕ → Done
-acceptedAt byInput s zeroIn zeroFee swap clock =
+-- and the charges on its transfers
+abbrev pub chargesOf : Bool → State → ℕ → ℕ → Charged
+chargesOf byInput s direction amount = chargedOf byInput (s .pool .terms) (eqb direction 0) amount (swapOf byInput s direction amount)
+
+abbrev pub acceptedAt : Bool → State → Bool → Bool → SwapResult → Charged → ℕ → Done
+acceptedAt byInput s zeroIn zeroFee swap charged clock =
     let p = s .pool in
     doneOf (s .entries)
     (swappedIn p
-    (acceptedSwap byInput zeroIn zeroFee swap (booked zeroIn zeroFee (swap .protocol) (swap .fund) (swap .creator) (p .books .fees)) (p .books) (p .ring)
+    (acceptedSwap byInput zeroIn zeroFee swap charged (booked zeroIn zeroFee (swap .protocol) (swap .fund) (swap .creator) (p .books .fees)) (p .books) (p .ring)
     (newest (p .ring) (s .entries)) (price (net0 p) (net1 p)) (price (net1 p) (net0 p)) clock))
 
 abbrev pub swapDecision : Bool → State → ℕ → ℕ → ℕ → ℕ → Decision
@@ -61,7 +68,7 @@ swapDecision byInput s direction amount limit clock =
       tests =
           swapTests byInput zeroIn (feeOnInput s direction) zeroFee swap (p .terms) (p .status) (p .books) (p .ring) (newest (p .ring) (s .entries))
           direction amount limit clock;
-      accepted = acceptedAt byInput s zeroIn zeroFee swap clock;
+      accepted = acceptedAt byInput s zeroIn zeroFee swap (chargesOf byInput s direction amount) clock;
     }
 
 unfoldable pub decision : State → Call → Decision
@@ -72,9 +79,11 @@ decision s (Deposit lp maximum0 maximum1) =
     let b = p .books in
     let amount0 = part true (lp .0) (b .supply) (net0 p) in
     let amount1 = part true (lp .0) (b .supply) (net1 p) in
+    let sent0 = leastSent (p .terms .charges .token0) amount0 in
+    let sent1 = leastSent (p .terms .charges .token1) amount1 in
     record {
-      tests = depositTests amount0 amount1 (p .status) b (lp .0) (maximum0 .0) (maximum1 .0);
-      accepted = besides (s .entries) (bookedIn p (deposited amount0 amount1 b (lp .0)));
+      tests = depositTests amount0 amount1 sent0 sent1 (p .status) b (lp .0) (maximum0 .0) (maximum1 .0);
+      accepted = besides (s .entries) (bookedIn p (deposited amount0 amount1 (chargedOn (p .terms .charges) sent0 sent1) b (lp .0)));
     }
 decision s (Withdraw lp owned minimum0 minimum1) =
     let p = s .pool in
@@ -83,9 +92,11 @@ decision s (Withdraw lp owned minimum0 minimum1) =
     let amount1 = part false (lp .0) (b .supply) (net1 p) in
     let paid0 = paid (lp .0) (b .supply) (net0 p) in
     let paid1 = paid (lp .0) (b .supply) (net1 p) in
+    let received0 = restOf (p .terms .charges .token0) paid0 in
+    let received1 = restOf (p .terms .charges .token1) paid1 in
     record {
-      tests = withdrawTests amount0 amount1 paid0 paid1 (p .status) b (lp .0) (owned .0) (minimum0 .0) (minimum1 .0);
-      accepted = besides (s .entries) (bookedIn p (withdrawn paid0 paid1 b (lp .0)));
+      tests = withdrawTests amount0 amount1 received0 received1 (p .status) b (lp .0) (owned .0) (minimum0 .0) (minimum1 .0);
+      accepted = besides (s .entries) (bookedIn p (withdrawn paid0 paid1 (chargedOn (p .terms .charges) paid0 paid1) b (lp .0)));
     }
 decision s (Settle share) =
     let p = s .pool in
@@ -94,13 +105,13 @@ decision s (Settle share) =
     let shared1 = feeDown (b .fees .creator1) share in
     record {
       tests = settlementTests shared0 shared1 b share;
-      accepted = besides (s .entries) (bookedIn p (settled shared0 shared1 b));
+      accepted = besides (s .entries) (bookedIn p (settled shared0 shared1 (p .terms .charges) b));
     }
 decision s (SetStatus bit flag) = record {
   tests = statusTests bit flag;
   accepted =
       besides (s .entries)
-      (standingIn (s .pool) (record { status = flagged bit flag (s .pool .status); receipt = amounts statusKind 0 0 0 0 0 }));
+      (standingIn (s .pool) (record { status = flagged bit flag (s .pool .status); receipt = amounts statusKind 0 0 0 0 0 nothingCharged }));
 }
 
 abbrev pub testsOf : State → Call → Tests
@@ -117,7 +128,7 @@ openingDecision o = record {
       besides zeroEntries
       (record {
         pool = startWith (booksWith (o .amount0) (o .amount1) (supplyOf o)) (openedTerms o);
-        receipt = amounts kind (o .amount0) (o .amount1) 0 0 (supplyOf o);
+        receipt = amounts kind (o .amount0) (o .amount1) 0 0 (supplyOf o) nothingCharged;
       });
 }
 

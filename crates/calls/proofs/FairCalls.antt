@@ -13,7 +13,7 @@ use Rattle.rates.specs.declared.Terms.{Terms}
 use Rattle.rates.specs.Rates.{HighestFeeRate, rateLimits, creatorRate}
 use Rattle.calculator.proofs.FairSwaps.{Fair, input-fair, output-fair}
 use Rattle.accounting.specs.Counters.{counterTests}
-use Rattle.quotes.specs.Quotes.{netIn, netOut}
+use Rattle.quotes.specs.Quotes.{netIn, netOut, vaultAmount}
 use Rattle.swap.specs.Swap.{inputTests, outputTests}
 use Rattle.calls.specs.Next.{State}
 use Rattle.calls.proofs.Decisions.{feeOnInput, swapOf, swapDecision}
@@ -39,9 +39,9 @@ swap-fair true s direction amount limit clock t =
     let r = s .pool .terms .rates in
     let trade = rates-limited (s .pool .terms) (t .0) in
     let shares = ltb-false Million (r .protocol + r .fund) (t .1 .0) in
-    input-fair r (creatorRate (s .pool .terms)) _ _ trade shares (feeOnInput s direction) amount
+    input-fair r (creatorRate (s .pool .terms)) _ _ trade shares (feeOnInput s direction) (vaultAmount true (s .pool .terms) (eqb direction 0) amount)
 swap-fair false s direction amount limit clock t =
     let r = s .pool .terms .rates in
     let trade = rates-limited (s .pool .terms) (t .0) in
     let shares = ltb-false Million (r .protocol + r .fund) (t .1 .0) in
-    output-fair r (creatorRate (s .pool .terms)) _ _ trade shares (feeOnInput s direction) amount (search leb-false)
+    output-fair r (creatorRate (s .pool .terms)) _ _ trade shares (feeOnInput s direction) (vaultAmount false (s .pool .terms) (eqb direction 0) amount) (search leb-false)

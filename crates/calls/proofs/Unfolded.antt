@@ -8,6 +8,7 @@ use Rattle.rates.specs.Rates.{rateLimits, rateTests, onInput}
 use Rattle.calculator.specs.Calculator.{swapBaseInput as inputWithFees, curveOutput, curveInput, charged, withFees, swapBaseOutput as outputWithFees}
 use Rattle.accounting.specs.Counters.{counterTests}
 use Rattle.accounting.specs.Booking.{booked}
+use Rattle.charge.specs.Charge.{chargeOn, restOf, chargeFor, leastSent}
 use Rattle.oracle.specs.Ring.{entryAt, withEntry, price, acceptedUpdate}
 use Rattle.receipt.specs.Receipt.{refusal, refusedBooks, amounts}
 use Rattle.status.specs.Status.{flagged, statusTests, statusAfter}
@@ -20,10 +21,10 @@ use Rattle.pool.specs.State.{refused}
 use Rattle.pool.specs.Calls.{zeroPool, zeroEntries, opening, decisionOf, swapBaseInput, swapBaseOutput, deposit, withdraw, settlement, setStatus}
 use Rattle.calls.specs.Next.{next}
 
--- opens every definition of document 01 at once
+-- opens every definition of the calls at once
 unfoldable pub all : Unit {0}
 unfolding rootAt root _then_ outcome feeUp feeDown split preFee swapOut swapIn lpAmount onInput inputWithFees curveOutput curveInput charged withFees outputWithFees
-    booked entryAt withEntry price acceptedUpdate refusal refusedBooks amounts rateLimits rateTests counterTests flagged statusTests statusAfter
+    booked chargeOn restOf chargeFor leastSent entryAt withEntry price acceptedUpdate refusal refusedBooks amounts rateLimits rateTests counterTests flagged statusTests statusAfter
     settlementTests settledCounters settlementReceipt settlementAt settlementAfter amountTests depositTests depositAt depositAfter withdrawTests withdrawAt withdrawAfter
     openingTests refusedOpening openingAfter lastTests inputTests outputTests refusedSwap paidBooks swapReceipt acceptedSwap swapAfter
     refused zeroPool zeroEntries opening decisionOf swapBaseInput swapBaseOutput deposit withdraw settlement setStatus next

@@ -17,6 +17,7 @@ use Rattle.calculator.specs.declared.SwapResult.{SwapResult}
 use Rattle.accounting.specs.declared.FeeCounters.{FeeCounters}
 use Rattle.accounting.specs.declared.Books.{Books}
 use Rattle.accounting.specs.Counters.{ofToken, counterTests}
+use Rattle.charge.specs.declared.Charged.{Charged}
 use Rattle.receipt.specs.declared.Receipt.{Receipt}
 use Rattle.receipt.specs.Receipt.{refusal, amounts}
 use Rattle.settlement.specs.Settlement.{settlementTests, settlementReceipt}
@@ -30,7 +31,7 @@ use Rattle.pool.specs.Calls.{opening}
 use Rattle.calls.specs.declared.Call.{Call}
 use Rattle.calls.specs.declared.Call.the-variants.{SwapBaseInput, SwapBaseOutput, Deposit, Withdraw, Settle, SetStatus}
 use Rattle.calls.specs.Next.{State, next, left}
-use Rattle.calls.proofs.Decisions.{decision, testsOf, acceptedOf, refusedAt, call-decides, openingDecision, opening-decides, numberOf, swapOf, swapDecision, twoDigits}
+use Rattle.calls.proofs.Decisions.{decision, testsOf, acceptedOf, refusedAt, call-decides, openingDecision, opening-decides, numberOf, swapOf, chargesOf, swapDecision, twoDigits}
 use Rattle.calls.proofs.Refusals.{call-number-tells, opening-number-tells}
 use Rattle.calls.proofs.FairCalls.{swap-fair}
 
@@ -77,12 +78,14 @@ module _ (swap : SwapResult) (b : Books) (fits : BooksFit b) where
   swap-books-fit fees true e = let l : b .vault0 + swap .input ≤ U64 = ltb-false U64 _ e in record { vault0 = omega arith; vault1 = omega (arith, fits .vault1); supply = fits .supply }
   swap-books-fit fees false e = let l : b .vault1 + swap .input ≤ U64 = ltb-false U64 _ e in record { vault0 = omega (arith, fits .vault0); vault1 = omega arith; supply = fits .supply }
 
-  swap-receipt-fits : (byInput zeroFee : Bool) (clock : ℕ) (zeroIn : Bool) → Room zeroIn → swap .output ≤ netOut zeroIn b → ReceiptFits (swapReceipt byInput zeroIn zeroFee swap clock)
+  swap-receipt-fits :
+      (byInput zeroFee : Bool) (charged : Charged) (clock : ℕ) (zeroIn : Bool) → Room zeroIn → swap .output ≤ netOut zeroIn b
+      → ReceiptFits (swapReceipt byInput zeroIn zeroFee swap charged clock)
   unfolding swapReceipt
-  swap-receipt-fits byInput zeroFee clock true e o =
+  swap-receipt-fits byInput zeroFee charged clock true e o =
       let l : b .vault0 + swap .input ≤ U64 = ltb-false U64 _ e in
       record { number = omega arith; in0 = omega arith; in1 = omega arith; out0 = omega arith; out1 = omega (arith, fits .vault1) }
-  swap-receipt-fits byInput zeroFee clock false e o =
+  swap-receipt-fits byInput zeroFee charged clock false e o =
       let l : b .vault1 + swap .input ≤ U64 = ltb-false U64 _ e in
       record { number = omega arith; in0 = omega arith; in1 = omega arith; out0 = omega (arith, fits .vault0); out1 = omega arith }
 
@@ -95,7 +98,7 @@ swap-fits byInput s direction amount limit clock h t =
     let room = has-room byInput t in
     record {
       books = swap-books-fit (swapOf byInput s direction amount) (s .pool .books) h _ (eqb direction 0) room;
-      receipt = swap-receipt-fits (swapOf byInput s direction amount) (s .pool .books) h byInput _ clock (eqb direction 0) room (omega (arith, fair .pays, fair .within));
+      receipt = swap-receipt-fits (swapOf byInput s direction amount) (s .pool .books) h byInput _ (chargesOf byInput s direction amount) clock (eqb direction 0) room (omega (arith, fair .pays, fair .within));
     }
   where
     has-room : (i : Bool) → Passed (swapDecision i s direction amount limit clock .tests) → Room (swapOf i s direction amount) (s .pool .books) h (eqb direction 0)

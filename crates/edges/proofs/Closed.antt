@@ -2,7 +2,8 @@
 -- Assumes nothing.
 use Prim.Native.Nat.{ℕ, _+_}
 use mathlib.Core.Path.{_≡_, refl, sym, ap, _∙_}
-use mathlib.Core.Bool.{Bool, true, false, _||_, false≢true}
+use mathlib.Core.Bool.{Bool, true, false, cond, _||_, false≢true}
+use native.Mathlib.Omega.{arith}
 use lib.Dec.{ltb, eqb}
 use Rattle.refusal.specs.Tests.{Tests, _then_, outcome}
 use Rattle.refusal.proofs.Stops.{outcome-at}
@@ -10,12 +11,16 @@ use Rattle.fees.specs.Fees.{Million}
 use Rattle.rates.specs.declared.Terms.{Terms}
 use Rattle.rates.specs.Rates.{HighestFeeRate, rateLimits}
 use Rattle.accounting.specs.declared.Books.{Books}
+use Rattle.charge.specs.declared.Charge.{Charge}
+use Rattle.charge.specs.declared.Charges.{Charges}
+use Rattle.charge.specs.Charge.{restOf}
+use Rattle.charge.proofs.Rest.{rest-le}
 use Rattle.oracle.specs.declared.Ring.{Ring}
 use Rattle.oracle.specs.Ring.{Entry}
 use Rattle.receipt.specs.Receipt.{refusedBooks}
 use Rattle.status.specs.Status.{bit}
 use Rattle.liquidity.specs.Liquidity.{depositTests, depositAt, depositAfter, withdrawTests, withdrawAt, withdrawAfter}
-use Rattle.quotes.specs.Quotes.{frontTests}
+use Rattle.quotes.specs.Quotes.{chargeIn, looked, frontTests}
 use Rattle.swap.specs.declared.SwapAfter.{SwapAfter}
 use Rattle.swap.specs.Swap.{inputTests, outputTests, refusedSwap, swapAfter}
 use Rattle.edges.specs.Closed.{pastLimits, closedToSwaps, SwapOrder, DepositOrder, WithdrawalOrder, ClosedBeforeNothing}
@@ -65,36 +70,44 @@ module _ (t : Terms) (status direction amount clock : ℕ) (rest : Tests) (bad :
         let o = both-false (bit 2 status) (ltb clock (t .«open_time»)) c in
         sym (outcome-at 4 _ bad good (l .0, (l .1, (o .0, (o .1, is-none amount a)))))
 
--- either swap begins with it
+-- either swap begins with it, on an amount of which nothing is left where it is 0
 module _ (byInput : Bool) (t : Terms) (status : ℕ) (b : Books) (ring : Ring) (e : Entry) (direction amount limit clock : ℕ) where
   ordered :
-      (rest : Tests) (good : SwapAfter)
-      → swapAfter byInput t status b ring e direction amount limit clock ≡ came t status direction amount clock rest (refusedSwap b ring) good
+      (seen : ℕ) → (amount ≡ 0 → seen ≡ 0) → (rest : Tests) (good : SwapAfter)
+      → swapAfter byInput t status b ring e direction amount limit clock ≡ came t status direction seen clock rest (refusedSwap b ring) good
       → SwapOrder byInput t status b ring e direction amount limit clock
-  ordered rest good f = record {
-    limits = λ h. f ∙ past-limits t status direction amount clock rest (refusedSwap b ring) good h;
-    closed = λ h c. f ∙ while-closed t status direction amount clock rest (refusedSwap b ring) good h c;
-    none = λ h c a. f ∙ asked-for-none t status direction amount clock rest (refusedSwap b ring) good h c a;
+  ordered seen z rest good f = record {
+    limits = λ h. f ∙ past-limits t status direction seen clock rest (refusedSwap b ring) good h;
+    closed = λ h c. f ∙ while-closed t status direction seen clock rest (refusedSwap b ring) good h c;
+    none = λ h c a. f ∙ asked-for-none t status direction seen clock rest (refusedSwap b ring) good h c (z a);
   }
+
+nothing-arrives : (c : Charge) (direction amount : ℕ) → amount ≡ 0 → looked true direction amount (restOf c amount) ≡ 0
+nothing-arrives c direction amount e = go (ltb 1 direction)
+  where
+    go : (b : Bool) → cond b amount (restOf c amount) ≡ 0
+    go true = e
+    go false = let l = rest-le c amount in omega arith
 
 swap-order :
     (byInput : Bool) (t : Terms) (status : ℕ) (b : Books) (ring : Ring) (e : Entry) (direction amount limit clock : ℕ)
     → SwapOrder byInput t status b ring e direction amount limit clock
 unfolding swapAfter inputTests outputTests
-swap-order true t status b ring e direction amount limit clock = ordered true t status b ring e direction amount limit clock _ _ refl
-swap-order false t status b ring e direction amount limit clock = ordered false t status b ring e direction amount limit clock _ _ refl
+swap-order true t status b ring e direction amount limit clock =
+    ordered true t status b ring e direction amount limit clock _ (nothing-arrives (chargeIn (eqb direction 0) t) direction amount) _ _ refl
+swap-order false t status b ring e direction amount limit clock = ordered false t status b ring e direction amount limit clock _ (λ a. a) _ _ refl
 
 -- ---- deposits and withdrawals
-deposit-order : (status : ℕ) (b : Books) (lp maximum0 maximum1 : ℕ) → DepositOrder status b lp maximum0 maximum1
+deposit-order : (c : Charges) (status : ℕ) (b : Books) (lp maximum0 maximum1 : ℕ) → DepositOrder c status b lp maximum0 maximum1
 unfolding depositAfter depositAt depositTests
-deposit-order status b lp maximum0 maximum1 = record {
+deposit-order c status b lp maximum0 maximum1 = record {
   closed = λ h. sym (outcome-at 0 _ (refusedBooks b) _ h);
   none = λ h e. sym (outcome-at 1 _ (refusedBooks b) _ (h, is-none lp e));
 }
 
-withdrawal-order : (status : ℕ) (b : Books) (lp owned minimum0 minimum1 : ℕ) → WithdrawalOrder status b lp owned minimum0 minimum1
+withdrawal-order : (c : Charges) (status : ℕ) (b : Books) (lp owned minimum0 minimum1 : ℕ) → WithdrawalOrder c status b lp owned minimum0 minimum1
 unfolding withdrawAfter withdrawAt withdrawTests
-withdrawal-order status b lp owned minimum0 minimum1 = record {
+withdrawal-order c status b lp owned minimum0 minimum1 = record {
   closed = λ h. sym (outcome-at 0 _ (refusedBooks b) _ h);
   amount = λ h r.
       either-true (eqb lp 0) (ltb owned lp) r

@@ -10,6 +10,7 @@ use Rattle.fees.specs.Fees.{Million}
 use Rattle.rates.specs.declared.Terms.{Terms}
 use Rattle.rates.specs.Rates.{HighestFeeRate}
 use Rattle.accounting.specs.declared.Books.{Books}
+use Rattle.charge.specs.declared.Charges.{Charges}
 use Rattle.oracle.specs.declared.Ring.{Ring}
 use Rattle.oracle.specs.Ring.{Entry}
 use Rattle.receipt.specs.Receipt.{refusedBooks}
@@ -42,19 +43,19 @@ pub record SwapOrder (byInput : Bool) (t : Terms) (status : ℕ) (b : Books) (ri
       → swapAfter byInput t status b ring e direction amount limit clock ≡ refusedSwap b ring RequireViolated
 
 -- deposits and withdrawals look at no open time
-pub record DepositOrder (status : ℕ) (b : Books) (lp maximum0 maximum1 : ℕ) : Type 0 where
-  pub closed : bit 0 status ≡ true → depositAfter status b lp maximum0 maximum1 ≡ refusedBooks b NotApproved
-  pub none : bit 0 status ≡ false → lp ≡ 0 → depositAfter status b lp maximum0 maximum1 ≡ refusedBooks b RequireViolated
+pub record DepositOrder (c : Charges) (status : ℕ) (b : Books) (lp maximum0 maximum1 : ℕ) : Type 0 where
+  pub closed : bit 0 status ≡ true → depositAfter c status b lp maximum0 maximum1 ≡ refusedBooks b NotApproved
+  pub none : bit 0 status ≡ false → lp ≡ 0 → depositAfter c status b lp maximum0 maximum1 ≡ refusedBooks b RequireViolated
 
-pub record WithdrawalOrder (status : ℕ) (b : Books) (lp owned minimum0 minimum1 : ℕ) : Type 0 where
-  pub closed : bit 1 status ≡ true → withdrawAfter status b lp owned minimum0 minimum1 ≡ refusedBooks b NotApproved
+pub record WithdrawalOrder (c : Charges) (status : ℕ) (b : Books) (lp owned minimum0 minimum1 : ℕ) : Type 0 where
+  pub closed : bit 1 status ≡ true → withdrawAfter c status b lp owned minimum0 minimum1 ≡ refusedBooks b NotApproved
   pub amount :
       bit 1 status ≡ false → amountRefused lp owned ≡ true
-      → withdrawAfter status b lp owned minimum0 minimum1 ≡ refusedBooks b RequireViolated
+      → withdrawAfter c status b lp owned minimum0 minimum1 ≡ refusedBooks b RequireViolated
 
 pub record ClosedBeforeNothing : Type 0 where
   pub swaps :
       (byInput : Bool) (t : Terms) (status : ℕ) (b : Books) (ring : Ring) (e : Entry) (direction amount limit clock : ℕ)
       → SwapOrder byInput t status b ring e direction amount limit clock
-  pub deposits : (status : ℕ) (b : Books) (lp maximum0 maximum1 : ℕ) → DepositOrder status b lp maximum0 maximum1
-  pub withdrawals : (status : ℕ) (b : Books) (lp owned minimum0 minimum1 : ℕ) → WithdrawalOrder status b lp owned minimum0 minimum1
+  pub deposits : (c : Charges) (status : ℕ) (b : Books) (lp maximum0 maximum1 : ℕ) → DepositOrder c status b lp maximum0 maximum1
+  pub withdrawals : (c : Charges) (status : ℕ) (b : Books) (lp owned minimum0 minimum1 : ℕ) → WithdrawalOrder c status b lp owned minimum0 minimum1

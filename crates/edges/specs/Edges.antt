@@ -1,9 +1,11 @@
--- Document 01, 'Edges': the starred ones and the worked day, with what document 02 (a) makes of one, and the answers that 02 (b) changes, in one
--- table. Each row is an opening, what is asked of its pool, and what must come out.
+-- Document 01, 'Edges': the starred ones and the worked day, with what document 02 (a) makes of one, the answers that 02 (b) changes, and a pool whose
+-- tokens carry charges (02 (c)), in one table. Each row is an opening, what is asked of its pool, and what must come out.
 use Prim.Native.Nat.{ℕ, _+_}
 use mathlib.Core.Path.{_≡_}
 use mathlib.Core.List.{List, [], _∷_}
+use Rattle.refusal.specs.Tests.{U64}
 use Rattle.rates.specs.declared.Rates.{Rates}
+use Rattle.charge.specs.Charge.{noCharges}
 use Rattle.curve.specs.declared.constant_product.LpTokens.{LpTokens}
 use Rattle.curve.specs.ConstantProduct.{tokens}
 use Rattle.pool.specs.State.{Done, net0, net1}
@@ -26,6 +28,8 @@ pub data Field : Type 0 where
   paidIn1 : Field
   paidOut0 : Field
   paidOut1 : Field
+  charge0 : Field
+  charge1 : Field
   tradeFee : Field
   protocolFee : Field
   fundFee : Field
@@ -52,6 +56,8 @@ shown paidIn0 d = d .after .receipt .paid .in0
 shown paidIn1 d = d .after .receipt .paid .in1
 shown paidOut0 d = d .after .receipt .paid .out0
 shown paidOut1 d = d .after .receipt .paid .out1
+shown charge0 d = d .after .receipt .charged .charge0
+shown charge1 d = d .after .receipt .charged .charge1
 shown tradeFee d = d .after .receipt .trade .«trade_fee»
 shown protocolFee d = d .after .receipt .trade .«protocol_fee»
 shown fundFee d = d .after .receipt .trade .«fund_fee»
@@ -88,7 +94,15 @@ dayRates creator = tradeAndCreator 2500 creator
 
 -- 1,000,000 by 4,000,000, open for swaps from this clock on
 abbrev openFrom : ℕ → ℕ → ℕ → Rates → Opening
-openFrom time model enabled rates = record { amount0 = 1000000; amount1 = 4000000; model = model; enabled = enabled; «open_time» = time; rates = rates }
+openFrom time model enabled rates = record {
+  amount0 = 1000000;
+  amount1 = 4000000;
+  model = model;
+  enabled = enabled;
+  «open_time» = time;
+  rates = rates;
+  charges = noCharges;
+}
 
 abbrev day : ℕ → ℕ → Rates → Opening
 day = openFrom 0
@@ -97,7 +111,23 @@ abbrev worked : Opening
 worked = day 0 0 (dayRates 0)
 
 abbrev square : ℕ → Opening
-square amount = record { amount0 = amount; amount1 = amount; model = 0; enabled = 0; «open_time» = 0; rates = dayRates 0 }
+square amount = record { amount0 = amount; amount1 = amount; model = 0; enabled = 0; «open_time» = 0; rates = dayRates 0; charges = noCharges }
+
+-- the worked opening, with charges: points and maximum of token 0, then of token 1
+abbrev charging : ℕ → ℕ → ℕ → ℕ → Opening
+charging points0 maximum0 points1 maximum1 = record {
+  amount0 = 1000000;
+  amount1 = 4000000;
+  model = 0;
+  enabled = 0;
+  «open_time» = 0;
+  rates = dayRates 0;
+  charges = record { token0 = record { points = points0; maximum = maximum0 }; token1 = record { points = points1; maximum = maximum1 } };
+}
+
+-- token 0 at 100 points with maximum 50, token 1 at 25 points without one
+abbrev prize : Opening
+prize = charging 100 50 25 U64
 
 abbrev lp : ℕ → LpTokens
 lp n = record { 0 = n }
@@ -141,6 +171,28 @@ edges =
     ∷ edge worked (closed 0 (Deposit (lp 0) (tokens 100) (tokens 100))) ((number, 1) ∷ [])
     ∷ edge worked (closed 1 (Withdraw (lp 0) (lp 2000000) (tokens 0) (tokens 0))) ((number, 1) ∷ [])
     ∷ edge worked (closed 1 (Withdraw (lp 3) (lp 2) (tokens 0) (tokens 0))) ((number, 1) ∷ [])
+    -- charges (02 (c)). By input 10,000: 9,950 arrive; 39,309 leave, of which 39,210 are received
+    ∷ edge prize (call (SwapBaseInput 0 10000 39210 100)) ((number, 0) ∷ (paidIn0, 9950) ∷ (charge0, 50) ∷ (paidOut1, 39309) ∷ (charge1, 99) ∷ [])
+    ∷ edge prize (call (SwapBaseInput 0 10000 39211 100)) ((number, 2) ∷ [])
+    -- by output 39,210: 39,309 leave, 9,950 arrive, 10,000 are sent; no u64 leaves 2^64 − 1
+    ∷ edge prize (call (SwapBaseOutput 0 39210 10000 100)) ((number, 0) ∷ (paidIn0, 9950) ∷ (charge0, 50) ∷ (paidOut1, 39309) ∷ (charge1, 99) ∷ [])
+    ∷ edge prize (call (SwapBaseOutput 0 39210 9999 100)) ((number, 2) ∷ [])
+    ∷ edge prize (call (SwapBaseOutput 0 U64 U64 100)) ((number, 14) ∷ [])
+    -- of 1 nothing arrives; where the direction is unknown the amount itself is looked at
+    ∷ edge prize (call (SwapBaseInput 0 1 0 100)) ((number, 10) ∷ [])
+    ∷ edge prize (call (SwapBaseInput 2 1 0 100)) ((number, 5) ∷ [])
+    ∷ edge prize (call (SwapBaseInput 2 0 0 100)) ((number, 10) ∷ [])
+    -- deposit and withdrawal of 10,000 LP
+    ∷ edge prize (call (Deposit (lp 10000) (tokens 5050) (tokens 20051))) ((number, 0) ∷ (paidIn0, 5000) ∷ (charge0, 50) ∷ (paidIn1, 20000) ∷ (charge1, 51) ∷ [])
+    ∷ edge prize (call (Withdraw (lp 10000) (lp 2000000) (tokens 4950) (tokens 19950))) ((number, 0) ∷ (paidOut0, 5000) ∷ (charge0, 50) ∷ (paidOut1, 20000) ∷ (charge1, 50) ∷ [])
+    -- points 9,999 open, 10,000 is 3
+    ∷ edge (charging 9999 0 9999 0) itself ((number, 0) ∷ (charge0, 0) ∷ (charge1, 0) ∷ [])
+    ∷ edge (charging 10000 0 0 0) itself ((number, 3) ∷ [])
+    ∷ edge (charging 0 0 10000 0) itself ((number, 3) ∷ [])
+    -- the least sent, out of the vault, for 10: 100,000 at 9,999 points, 11 at 1 point, 15 at 9,999 points with maximum 5
+    ∷ edge (charging 0 0 9999 U64) (call (SwapBaseOutput 0 10 U64 100)) ((number, 0) ∷ (paidOut1, 100000) ∷ (charge1, 99990) ∷ [])
+    ∷ edge (charging 0 0 1 U64) (call (SwapBaseOutput 0 10 U64 100)) ((number, 0) ∷ (paidOut1, 11) ∷ (charge1, 1) ∷ [])
+    ∷ edge (charging 0 0 9999 5) (call (SwapBaseOutput 0 10 U64 100)) ((number, 0) ∷ (paidOut1, 15) ∷ (charge1, 5) ∷ [])
     ∷ []
 
 -- what comes out is what must, in every row

@@ -16,8 +16,8 @@ use Rattle.swap.specs.Swap.{swapAfter}
 abbrev pub freeOfFees : ℕ → ℕ → SwapResult
 freeOfFees input output = record { input = input; output = output; trade = 0; protocol = 0; fund = 0; creator = 0 }
 
--- Where the trade rate plus the creator rate as it counts is 0: by input the output is what the curve gives for the whole amount, by output
--- the input is what the curve asks, and every fee is 0, on whichever side it would be. `swapAfter` books and
+-- Where the trade rate plus the creator rate as it counts is 0: by input the output is what the curve gives for the whole amount at the vault,
+-- by output the input is what the curve asks, and every fee is 0, on whichever side it would be. `swapAfter` books and
 -- shows `resultOf` wherever it accepts.
 abbrev pub FreeDays : Type 0
 FreeDays =

@@ -1,16 +1,17 @@
-// Document 01's examples, each carried by a contract: its edges with the worked day, and its day sheet. Then what document 02 (a) and (b)
-// mean for every swap, deposit and withdrawal.
+// Document 01's examples, each carried by a contract: its edges with the worked day, and its day sheet. Then what document 02 (a), (b) and (c)
+// mean for every call.
 ghost use Rattle.edges.specs.Closed.{ClosedBeforeNothing};
 ghost use Rattle.edges.specs.Edges.{edges, EdgesHold};
 ghost use Rattle.edges.specs.Example.{Example};
 ghost use Rattle.edges.specs.FreeDays.{FreeDays, NoSwapAnswers4};
+ghost use Rattle.edges.specs.NoCharge.{NoChargeNoChange};
 ghost use mathlib.Core.Bool.{true};
 ghost use mathlib.Core.Path.{_≡_};
 ghost use lib.ListN.{length};
 
-// Every one of the table's 22 rows comes out as document 01 has it, with document 02 (a) and (b) (specs/Edges.antt).
+// Every one of the table's 38 rows comes out as document 01 has it, with document 02 (a), (b) and (c) (specs/Edges.antt).
 pub fn edges_hold() -> bool
-    ensures { λ r. ⌜ (r ≡ true) × (length edges ≡ 22) × EdgesHold ⌝ }
+    ensures { λ r. ⌜ (r ≡ true) × (length edges ≡ 38) × EdgesHold ⌝ }
 {
     true
 }
@@ -33,6 +34,13 @@ pub fn free_days_hold() -> bool
 // after (specs/Closed.antt).
 pub fn closed_before_nothing() -> bool
     ensures { λ r. ⌜ (r ≡ true) × ClosedBeforeNothing ⌝ }
+{
+    true
+}
+
+// Where both points are 0 each call gives what it gave without charges, whatever the maximums (specs/NoCharge.antt).
+pub fn no_charge_no_change() -> bool
+    ensures { λ r. ⌜ (r ≡ true) × NoChargeNoChange ⌝ }
 {
     true
 }

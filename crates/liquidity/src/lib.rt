@@ -1,5 +1,8 @@
-// Deposits and withdrawals, decided over the status and the books: an LP amount's worth in both tokens is paid in, or paid out.
+// Deposits and withdrawals, decided over the tokens' charges, the status and the books: an LP amount's worth in both tokens is paid in, or paid
+// out.
 use accounting::Books;
+use charge::Charged;
+use charge::Charges;
 use curve::constant_product::LpTokens;
 use curve::constant_product::TradingTokens;
 use receipt::BooksAfter;
@@ -23,7 +26,7 @@ ghost use mathlib.Core.Path.{_≡_};
 ghost use Prim.Native.Nat.{_≤_, min};
 ghost use Rattle.refusal.specs.Tests.{first};
 ghost use Rattle.liquidity.specs.Liquidity.{changeAfter};
-ghost use Rattle.liquidity.specs.Stages.{frontTests, depositRest, withdrawRest};
+ghost use Rattle.liquidity.specs.Stages.{frontTests, bookedDeposit, depositRest, withdrawRest};
 
 // Deposit: bit 0 set, 1; lp 0, 10. Withdrawal: bit 1, 1; lp 0 or above the owner's, 10.
 fn front_number(is_deposit: bool, status: u64, lp: LpTokens, owned: LpTokens) -> u64
@@ -38,26 +41,16 @@ fn front_number(is_deposit: bool, status: u64, lp: LpTokens, owned: LpTokens) ->
     either(closed, asked)
 }
 
-// The amounts are known. Above a maximum, 2; vault 8; supply past u64, 11; else the booking.
-fn deposit_at(
+// The limits are kept. Vault 8; supply past u64, 11; else the booking.
+fn book_deposit(
     books: Books,
     lp: LpTokens,
     amount0: TradingTokens,
     amount1: TradingTokens,
-    maximum0: TradingTokens,
-    maximum1: TradingTokens,
+    charged: Charged,
 ) -> BooksAfter
-    ensures { λ r. ⌜ r ≡ depositRest (amount0 .0) (amount1 .0) books (lp .0) (maximum0 .0) (maximum1 .0) ⌝ }
+    ensures { λ r. ⌜ r ≡ bookedDeposit (amount0 .0) (amount1 .0) charged books (lp .0) ⌝ }
 {
-    let above = first2(
-        amount0.0 > maximum0.0,
-        EXCEEDED_SLIPPAGE,
-        amount1.0 > maximum1.0,
-        EXCEEDED_SLIPPAGE,
-    );
-    if above != ACCEPTED {
-        return refuse_books(books, above);
-    }
     let room = first3(
         past_sum(books.vault0, amount0.0),
         MATH_OVERFLOW,
@@ -70,7 +63,7 @@ fn deposit_at(
         return refuse_books(books, room);
     }
     let fees = books.fees;
-    let receipt = amounts_receipt(DEPOSIT, amount0.0, amount1.0, 0, 0, lp.0);
+    let receipt = amounts_receipt(DEPOSIT, amount0.0, amount1.0, 0, 0, lp.0, charged);
     BooksAfter {
         books: Books {
             vault0: books.vault0 + amount0.0,
@@ -82,6 +75,33 @@ fn deposit_at(
     }
 }
 
+// The amounts that are to reach the vaults are known. No u64 can be sent that leaves one, 14; what is sent above a maximum, 2; then the booking.
+fn deposit_at(
+    charges: Charges,
+    books: Books,
+    lp: LpTokens,
+    amount0: TradingTokens,
+    amount1: TradingTokens,
+    maximum0: TradingTokens,
+    maximum1: TradingTokens,
+) -> BooksAfter
+    ensures { λ r. ⌜ r ≡ depositRest (amount0 .0) (amount1 .0) charges books (lp .0) (maximum0 .0) (maximum1 .0) ⌝ }
+{
+    let sent = charges.transfer_both(false, amount0.0, amount1.0);
+    let above = first2(
+        sent.amount0 > maximum0.0,
+        EXCEEDED_SLIPPAGE,
+        sent.amount1 > maximum1.0,
+        EXCEEDED_SLIPPAGE,
+    );
+    let number = either(sent.number, above);
+    if number != ACCEPTED {
+        return refuse_books(books, number);
+    }
+    let charged = sent.charged;
+    book_deposit(books, lp, amount0, amount1, charged)
+}
+
 // Amounts are capped at the nets.
 fn capped(net: TradingTokens, amount: TradingTokens) -> TradingTokens
     ensures { λ r. ⌜ r .0 ≡ min (net .0) (amount .0) ⌝ }
@@ -89,8 +109,9 @@ fn capped(net: TradingTokens, amount: TradingTokens) -> TradingTokens
     if net.0 <= amount.0 { net } else { amount }
 }
 
-// The amounts are known, capped at the nets. Below a minimum, 2; lp above supply, 11; else the booking.
+// The amounts that leave the vaults are known, capped at the nets. What is received below a minimum, 2; lp above supply, 11; else the booking.
 fn withdraw_at(
+    charges: Charges,
     books: Books,
     lp: LpTokens,
     paid0: TradingTokens,
@@ -99,12 +120,13 @@ fn withdraw_at(
     minimum1: TradingTokens,
 ) -> BooksAfter
     requires { ⌜ (paid0 .0 ≤ books .vault0) × (paid1 .0 ≤ books .vault1) ⌝ }
-    ensures { λ r. ⌜ r ≡ withdrawRest (paid0 .0) (paid1 .0) books (lp .0) (minimum0 .0) (minimum1 .0) ⌝ }
+    ensures { λ r. ⌜ r ≡ withdrawRest (paid0 .0) (paid1 .0) charges books (lp .0) (minimum0 .0) (minimum1 .0) ⌝ }
 {
+    let received = charges.transfer_both(true, paid0.0, paid1.0);
     let number = first3(
-        paid0.0 < minimum0.0,
+        received.amount0 < minimum0.0,
         EXCEEDED_SLIPPAGE,
-        paid1.0 < minimum1.0,
+        received.amount1 < minimum1.0,
         EXCEEDED_SLIPPAGE,
         lp.0 > books.supply,
         PANIC,
@@ -113,7 +135,8 @@ fn withdraw_at(
         return refuse_books(books, number);
     }
     let fees = books.fees;
-    let receipt = amounts_receipt(WITHDRAW, 0, 0, paid0.0, paid1.0, lp.0);
+    let charged = received.charged;
+    let receipt = amounts_receipt(WITHDRAW, 0, 0, paid0.0, paid1.0, lp.0, charged);
     BooksAfter {
         books: Books {
             vault0: books.vault0 - paid0.0,
@@ -128,6 +151,7 @@ fn withdraw_at(
 // A deposit with two maximums, or a withdrawal with the owner's LP and two minimums.
 pub fn decide(
     is_deposit: bool,
+    charges: Charges,
     status: u64,
     books: Books,
     lp: LpTokens,
@@ -135,7 +159,7 @@ pub fn decide(
     limit0: TradingTokens,
     limit1: TradingTokens,
 ) -> BooksAfter
-    ensures { λ r. ⌜ r ≡ changeAfter «is_deposit» status books (lp .0) (owned .0) (limit0 .0) (limit1 .0) ⌝ }
+    ensures { λ r. ⌜ r ≡ changeAfter «is_deposit» charges status books (lp .0) (owned .0) (limit0 .0) (limit1 .0) ⌝ }
 {
     let front = front_number(is_deposit, status, lp, owned);
     if front != ACCEPTED {
@@ -148,9 +172,9 @@ pub fn decide(
     let amount0 = worth.amount0;
     let amount1 = worth.amount1;
     if is_deposit {
-        return deposit_at(books, lp, amount0, amount1, limit0, limit1);
+        return deposit_at(charges, books, lp, amount0, amount1, limit0, limit1);
     }
     let paid0 = capped(worth.net0, amount0);
     let paid1 = capped(worth.net1, amount1);
-    withdraw_at(books, lp, paid0, paid1, limit0, limit1)
+    withdraw_at(charges, books, lp, paid0, paid1, limit0, limit1)
 }

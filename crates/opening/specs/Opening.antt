@@ -1,4 +1,5 @@
--- Document 01, 'Opening' (amount 0, amount 1, model, enabled, open time, rates): the books and the terms that a pool begins with.
+-- Document 01, 'Opening' (amount 0, amount 1, model, enabled, open time, rates), with document 02 (c) (each token's charge): the books and the
+-- terms that a pool begins with.
 use Prim.Native.Nat.{ℕ, _+_, _*_}
 use mathlib.Core.Bool.{false}
 use mathlib.Core.List.{[], _∷_}
@@ -7,6 +8,7 @@ use Rattle.root.specs.Root.{root}
 use Rattle.refusal.specs.Refusal.{EmptySupply, InvalidFeeModel, InvalidInput, InitLpAmountTooLess}
 use Rattle.refusal.specs.Tests.{Tests, outcome}
 use Rattle.fees.specs.Fees.{Million}
+use Rattle.charge.specs.Charge.{noCharges, nothingCharged}
 use Rattle.rates.specs.declared.Rates.{Rates}
 use Rattle.rates.specs.declared.Terms.{Terms}
 use Rattle.rates.specs.Rates.{HighestFeeRate}
@@ -25,8 +27,12 @@ supplyOf o = root (o .amount0 * o .amount1)
 abbrev pub LeastSupply : ℕ
 LeastSupply = 101
 
--- an amount 0 gives 6; model 9; enabled not 0 or 1, trade + creator above 999,999, protocol + fund above 1,000,000, or share above
--- 1,000,000 gives 3; supply below 101 gives 13
+-- points above this are refused
+abbrev pub HighestPoints : ℕ
+HighestPoints = 9999
+
+-- an amount 0 gives 6; model 9; enabled not 0 or 1, trade + creator above 999,999, protocol + fund above 1,000,000, share above
+-- 1,000,000, or points above 9,999 gives 3; supply below 101 gives 13
 unfoldable pub openingTests : Opening → Tests
 openingTests o =
     (eqb (o .amount0) 0, EmptySupply)
@@ -36,6 +42,8 @@ openingTests o =
     ∷ (ltb HighestFeeRate (o .rates .trade + o .rates .creator), InvalidInput)
     ∷ (ltb Million (o .rates .protocol + o .rates .fund), InvalidInput)
     ∷ (ltb Million (o .rates .share), InvalidInput)
+    ∷ (ltb HighestPoints (o .charges .token0 .points), InvalidInput)
+    ∷ (ltb HighestPoints (o .charges .token1 .points), InvalidInput)
     ∷ (ltb (supplyOf o) LeastSupply, InitLpAmountTooLess)
     ∷ []
 
@@ -44,23 +52,30 @@ abbrev pub booksWith : ℕ → ℕ → ℕ → Books
 booksWith amount0 amount1 supply = record { vault0 = amount0; vault1 = amount1; fees = zeroCounters; supply = supply }
 
 abbrev pub openedTerms : Opening → Terms
-openedTerms o = record { rates = o .rates; «fee_model» = o .model; «open_time» = o .«open_time»; enabled = eqb (o .enabled) 1 }
+openedTerms o = record {
+  rates = o .rates;
+  charges = o .charges;
+  «fee_model» = o .model;
+  «open_time» = o .«open_time»;
+  enabled = eqb (o .enabled) 1;
+}
 
 -- a refused opening gives its number with zeros
 abbrev pub zeroRates : Rates
 zeroRates = record { trade = 0; protocol = 0; fund = 0; creator = 0; share = 0 }
 
 abbrev pub zeroTerms : Terms
-zeroTerms = record { rates = zeroRates; «fee_model» = 0; «open_time» = 0; enabled = false }
+zeroTerms = record { rates = zeroRates; charges = noCharges; «fee_model» = 0; «open_time» = 0; enabled = false }
 
 unfoldable pub refusedOpening : ℕ → OpeningAfter
 refusedOpening n = record { books = booksWith 0 0 0; terms = zeroTerms; receipt = refusal n }
 
+-- its amounts are those that arrived, and bear no charge
 unfoldable pub openingAfter : Opening → OpeningAfter
 openingAfter o =
     outcome (openingTests o) refusedOpening
     (record {
       books = booksWith (o .amount0) (o .amount1) (supplyOf o);
       terms = openedTerms o;
-      receipt = amounts kind (o .amount0) (o .amount1) 0 0 (supplyOf o);
+      receipt = amounts kind (o .amount0) (o .amount1) 0 0 (supplyOf o) nothingCharged;
     })

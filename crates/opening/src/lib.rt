@@ -1,6 +1,9 @@
 // Opening: the books and the terms of a new pool, from two amounts.
 use accounting::Books;
 use accounting::FeeCounters;
+use charge::Charges;
+use charge::no_charges;
+use charge::nothing_charged;
 use rates::Rates;
 use rates::Terms;
 use rates::rate_number;
@@ -14,7 +17,7 @@ use refusal::INIT_LP_AMOUNT_TOO_LESS;
 use refusal::INVALID_FEE_MODEL;
 use refusal::INVALID_INPUT;
 use refusal::either;
-use refusal::first1;
+use refusal::first3;
 use refusal::first4;
 use root::isqrt;
 use wide::widening_mul;
@@ -27,6 +30,9 @@ ghost use Rattle.opening.specs.Opening.{openingTests, booksWith, zeroTer
 // A supply below this is refused.
 const LEAST_SUPPLY: u64 = 101;
 
+// Points above this are refused.
+const HIGHEST_POINTS: u64 = 9_999;
+
 // The arguments of an opening. `enabled` is 0 or 1.
 pub struct Opening {
     pub amount0: u64,
@@ -35,6 +41,7 @@ pub struct Opening {
     pub enabled: u64,
     pub open_time: u64,
     pub rates: Rates,
+    pub charges: Charges,
 }
 
 // What a pool begins with, and the receipt.
@@ -44,7 +51,7 @@ pub struct OpeningAfter {
     pub receipt: Receipt,
 }
 
-// An amount 0, 6; model 9; enabled not 0 or 1, the rates, 3; supply below 101, 13.
+// An amount 0, 6; model 9; enabled not 0 or 1, the rates, points above 9,999, 3; supply below 101, 13.
 fn opening_number(opening: Opening, supply: u64) -> u64
     requires { ⌜ supply ≡ root (opening .amount0 * opening .amount1) ⌝ }
     ensures { λ r. ⌜ r ≡ first (openingTests opening) ⌝ }
@@ -61,8 +68,15 @@ fn opening_number(opening: Opening, supply: u64) -> u64
     );
     let rates = opening.rates;
     let rate = rate_number(rates);
-    let least = first1(supply < LEAST_SUPPLY, INIT_LP_AMOUNT_TOO_LESS);
-    either(front, either(rate, least))
+    let last = first3(
+        opening.charges.token0.points > HIGHEST_POINTS,
+        INVALID_INPUT,
+        opening.charges.token1.points > HIGHEST_POINTS,
+        INVALID_INPUT,
+        supply < LEAST_SUPPLY,
+        INIT_LP_AMOUNT_TOO_LESS,
+    );
+    either(front, either(rate, last))
 }
 
 // Counters start at 0.
@@ -87,6 +101,7 @@ fn books_with(amount0: u64, amount1: u64, supply: u64) -> Books
 fn zero_terms() -> Terms
     ensures { λ r. ⌜ r ≡ zeroTerms ⌝ }
 {
+    let charges = no_charges();
     Terms {
         rates: Rates {
             trade: 0,
@@ -95,6 +110,7 @@ fn zero_terms() -> Terms
             creator: 0,
             share: 0,
         },
+        charges,
         fee_model: 0,
         open_time: 0,
         enabled: false,
@@ -126,12 +142,15 @@ pub fn decide(opening: Opening) -> OpeningAfter
         return refuse_opening(number);
     }
     let rates = opening.rates;
+    let charges = opening.charges;
     let books = books_with(amount0, amount1, supply);
-    let receipt = amounts_receipt(OPENING, amount0, amount1, 0, 0, supply);
+    let charged = nothing_charged();
+    let receipt = amounts_receipt(OPENING, amount0, amount1, 0, 0, supply, charged);
     OpeningAfter {
         books,
         terms: Terms {
             rates,
+            charges,
             fee_model: opening.model,
             open_time: opening.open_time,
             enabled: opening.enabled == 1,

@@ -1,6 +1,6 @@
 -- Document 01's calls on a pool: each as it is decided over the pool's parts, put back into the pool. The lists of tests, in document 01's
 -- order as document 02 changes it, and what is given past all of them stand in `swap` with `quotes`, in `liquidity` with `accounting` and
--- `worth`, in `settlement`, `status` and `opening`.
+-- `worth`, in `settlement`, `status` and `opening`; what a token's charge takes, in `charge`.
 use Prim.Native.Nat.{ℕ}
 use mathlib.Core.Bool.{Bool, true, false}
 use lib.ListN.{replicate}
@@ -42,10 +42,10 @@ swapBaseOutput p entries direction amount maximum clock = doneOf entries (decisi
 
 -- ---- deposit and withdrawal
 unfoldable pub deposit : Pool → ℕ → ℕ → ℕ → After
-deposit p lp maximum0 maximum1 = bookedIn p (depositAfter (p .status) (p .books) lp maximum0 maximum1)
+deposit p lp maximum0 maximum1 = bookedIn p (depositAfter (p .terms .charges) (p .status) (p .books) lp maximum0 maximum1)
 
 unfoldable pub withdraw : Pool → ℕ → ℕ → ℕ → ℕ → After
-withdraw p lp owned minimum0 minimum1 = bookedIn p (withdrawAfter (p .status) (p .books) lp owned minimum0 minimum1)
+withdraw p lp owned minimum0 minimum1 = bookedIn p (withdrawAfter (p .terms .charges) (p .status) (p .books) lp owned minimum0 minimum1)
 
 -- as one call
 abbrev pub changeOf : Bool → Pool → ℕ → ℕ → ℕ → ℕ → After
@@ -54,7 +54,7 @@ changeOf false p lp owned minimum0 minimum1 = withdraw p lp owned minimum0 minim
 
 -- ---- settlement
 unfoldable pub settlement : Pool → ℕ → After
-settlement p share = bookedIn p (settlementAfter (p .books) share)
+settlement p share = bookedIn p (settlementAfter (p .terms .charges) (p .books) share)
 
 -- ---- status
 unfoldable pub setStatus : Pool → ℕ → ℕ → After

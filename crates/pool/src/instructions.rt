@@ -135,8 +135,18 @@ impl Pool {
     ) -> After
         ensures { λ r. ⌜ r ≡ changeOf «is_deposit» self (lp .0) (owned .0) (limit0 .0) (limit1 .0) ⌝ }
     {
+        let charges = self.terms.charges;
         let books = self.books;
-        self.booked(decide_change(is_deposit, self.status, books, lp, owned, limit0, limit1))
+        self.booked(decide_change(
+            is_deposit,
+            charges,
+            self.status,
+            books,
+            lp,
+            owned,
+            limit0,
+            limit1,
+        ))
     }
 
     // Tokens of both kinds for new LP tokens.
@@ -163,8 +173,9 @@ impl Pool {
     pub fn settle_creator_fee(self, share: u64) -> After
         ensures { λ r. ⌜ r ≡ settlement self share ⌝ }
     {
+        let charges = self.terms.charges;
         let books = self.books;
-        self.booked(decide_settlement(books, share))
+        self.booked(decide_settlement(charges, books, share))
     }
 
     // One bit of the status is set or cleared.

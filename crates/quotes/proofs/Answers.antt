@@ -7,7 +7,7 @@ use native.Mathlib.Omega.{arith}
 use Rattle.refusal.specs.Tests.{Tests, _then_, first, outcome}
 use Rattle.refusal.proofs.Stops.{turns, facts, Passed, outcome-past, outcome-map, outcome-all, first-then, passed-left}
 use Rattle.rates.specs.declared.Terms.{Terms}
-use Rattle.rates.specs.Rates.{creatorRate}
+use Rattle.rates.specs.Rates.{creatorRate, onInput}
 use Rattle.calculator.specs.declared.SwapResult.{SwapResult}
 use Rattle.calculator.specs.declared.SwapAnswer.{SwapAnswer}
 use Rattle.calculator.specs.declared.SwapAnswer.the-variants as S
@@ -18,8 +18,15 @@ use Rattle.calculator.proofs.FairSwaps.{Fair, input-fair, output-fair}
 use Rattle.accounting.specs.declared.Books.{Books}
 use Rattle.accounting.specs.Counters.{ofToken}
 use Rattle.quotes.specs.declared.Priced.{Priced}
-use Rattle.quotes.specs.Quotes.{netIn, netOut, withFees, calculatorTests, slippageTests}
-use Rattle.quotes.specs.Stages.{Swappable, answerAt, pricedAt}
+use Rattle.quotes.specs.Quotes.{netIn, netOut, withFees, calculatorTests, solverAmount, slippageTests}
+use Rattle.quotes.specs.Stages.{farEnd, Swappable, answerAt, answerOf, pricedAt}
+
+-- the answer by what the code hands the calculator
+pub answered :
+    (byInput : Bool) (t : Terms) (zeroIn : Bool) (n0 n1 amount : ℕ) {fee : Bool} {rate x y : ℕ} {a : SwapAnswer}
+    → fee ≡ onInput (t .«fee_model») zeroIn → rate ≡ creatorRate t → x ≡ ofToken zeroIn n0 n1 → y ≡ ofToken zeroIn n1 n0
+    → a ≡ answerAt byInput fee (t .rates) rate x y amount → a ≡ answerOf byInput t zeroIn n0 n1 amount
+answered byInput t zeroIn n0 n1 amount f r x y e = e ∙ (λ i. answerAt byInput (f i) (t .rates) (r i) (x i) (y i) amount)
 
 module _ (t : Terms) (b : Books) (ok : Swappable t b) (zeroIn fee : Bool) (amount limit : ℕ) where
   -- the rate that counts is within the limits, as the pool's own is
@@ -54,24 +61,30 @@ module _ (t : Terms) (b : Books) (ok : Swappable t b) (zeroIn fee : Bool) (amoun
   answer-is false = sym (past-limits _ _ limited _ _ _)
 
   module _ (byInput : Bool) {p : Priced}
-      (e : p ≡ pricedAt byInput limit (answerAt byInput fee (t .rates) (creatorRate t) (netIn zeroIn b) (netOut zeroIn b) amount)) where
+      (e : p ≡ pricedAt byInput t zeroIn limit (answerAt byInput fee (t .rates) (creatorRate t) (netIn zeroIn b) (netOut zeroIn b) amount)) where
     abbrev limits : Tests
-    limits = slippageTests byInput (result byInput .input) (result byInput .output) limit
+    limits = slippageTests byInput (solverAmount byInput t zeroIn (result byInput)) limit
 
-    priced : p ≡ pricedAt byInput limit (outcome (tests byInput) S.Refused (S.Swapped (result byInput)))
-    priced = e ∙ ap (pricedAt byInput limit) (answer-is byInput)
+    priced : p ≡ pricedAt byInput t zeroIn limit (outcome (tests byInput) S.Refused (S.Swapped (result byInput)))
+    priced = e ∙ ap (pricedAt byInput t zeroIn limit) (answer-is byInput)
 
     pub priced-number : p .number ≡ first (tests byInput then limits)
     priced-number =
         ap (λ (p : Priced). p .number) priced
-        ∙ outcome-map (λ (a : SwapAnswer). pricedAt byInput limit a .number) (tests byInput) S.Refused (S.Swapped (result byInput))
+        ∙ outcome-map (λ (a : SwapAnswer). pricedAt byInput t zeroIn limit a .number) (tests byInput) S.Refused (S.Swapped (result byInput))
         ∙ first-then (tests byInput) limits
 
-    pub priced-result : Passed (tests byInput then limits) → p .result ≡ result byInput
-    priced-result h =
-        ap (λ (p : Priced). p .result) priced
-        ∙ ap (λ (a : SwapAnswer). pricedAt byInput limit a .result)
+    priced-swapped : Passed (tests byInput then limits) → p ≡ pricedAt byInput t zeroIn limit (S.Swapped (result byInput))
+    priced-swapped h =
+        priced
+        ∙ ap (pricedAt byInput t zeroIn limit)
         (sym (outcome-all (tests byInput) S.Refused (S.Swapped (result byInput)) (passed-left (tests byInput) limits h)))
+
+    pub priced-result : Passed (tests byInput then limits) → p .result ≡ result byInput
+    priced-result h = ap (λ (p : Priced). p .result) (priced-swapped h)
+
+    pub priced-charge : Passed (tests byInput then limits) → p .charge ≡ farEnd byInput t zeroIn (result byInput) .charge
+    priced-charge h = ap (λ (p : Priced). p .charge) (priced-swapped h)
 
   -- what a fair swap pays out is within the net, and so within the vault
   covers : (s : SwapResult) → Fair fee (netIn zeroIn b) (netOut zeroIn b) s → s .output ≤ ofToken zeroIn (b .vault1) (b .vault0)

@@ -7,7 +7,10 @@ use calculator::SwapAnswer;
 use calculator::SwapResult;
 use calculator::swap_base_input;
 use calculator::swap_base_output;
-use rates::Rates;
+use charge::Charged;
+use charge::End;
+use charge::charged_for;
+use charge::nothing_charged;
 use rates::Terms;
 use rates::is_creator_fee_on_input;
 use rates::limit_number;
@@ -25,15 +28,16 @@ use refusal::first3;
 ghost use mathlib.Core.Path.{_≡_};
 ghost use Rattle.refusal.specs.Tests.{first};
 ghost use Rattle.accounting.specs.Counters.{netsAnswer};
-ghost use Rattle.quotes.specs.Quotes.{frontTests, slippageTests, nothing, refusedQuote, quoteOf};
-ghost use Rattle.quotes.specs.Stages.{readyAt, answerAt, pricedAt};
+ghost use Rattle.quotes.specs.Quotes.{frontTests, nothing, refusedQuote, quoteOf};
+ghost use Rattle.quotes.specs.Stages.{nearToken, movedAt, readyAt, answerOf, limitTests, pricedAt};
 
-// What a swap moves and charges, and the nets before it; or a refusal's number and zeros.
+// What a swap moves at the vaults and charges, the nets before it, and the tokens' charges; or a refusal's number and zeros.
 pub struct Quote {
     pub number: u64,
     pub result: SwapResult,
     pub net0: u64,
     pub net1: u64,
+    pub charged: Charged,
 }
 
 // The number of the tests on the nets and the model, and the nets.
@@ -43,10 +47,11 @@ struct Ready {
     net1: u64,
 }
 
-// The number of the calculator's tests and of the limit's, and what the swap moves and charges.
+// The number of the calculator's tests and of the limit's, what the swap moves and charges, and the charge on the transfer that it finds.
 struct Priced {
     number: u64,
     result: SwapResult,
+    charge: u64,
 }
 
 fn no_result() -> SwapResult
@@ -66,11 +71,13 @@ fn refused_quote(number: u64) -> Quote
     ensures { λ r. ⌜ r ≡ refusedQuote number ⌝ }
 {
     let result = no_result();
+    let charged = nothing_charged();
     Quote {
         number,
         result,
         net0: 0,
         net1: 0,
+        charged,
     }
 }
 
@@ -89,6 +96,30 @@ fn front_number(terms: Terms, status: u64, direction: u64, amount: u64, clock: u
     );
     let asked = first2(amount == 0, REQUIRE_VIOLATED, direction > 1, INVALID_VAULT);
     either(limits, either(closed, asked))
+}
+
+// The token of the amount that the caller names: by input the input's, by output the output's. true is token 0.
+fn near_token(by_input: bool, zero_in: bool) -> bool
+    ensures { λ r. ⌜ r ≡ nearToken «by_input» «zero_in» ⌝ }
+{
+    if by_input { zero_in } else { !zero_in }
+}
+
+// The amount, which the front has found not to be 0, at the vault. By input what arrives of it, 10 where nothing does; by output what leaves the
+// vault for it, 14 where no u64 has it as its rest.
+fn move_amount(by_input: bool, terms: Terms, zero_in: bool, amount: u64) -> End
+    ensures { λ r. ⌜ r ≡ movedAt «by_input» terms «zero_in» amount ⌝ }
+{
+    let charges = terms.charges;
+    let near = near_token(by_input, zero_in);
+    let end = charges.transfer_one(near, by_input, amount);
+    let none = first1(end.amount == 0, REQUIRE_VIOLATED);
+    let number = either(end.number, none);
+    End {
+        number,
+        amount: end.amount,
+        charge: end.charge,
+    }
 }
 
 // Counters' sums 8, vaults 7; a net of 0, 11; model 9.
@@ -115,33 +146,37 @@ fn find_nets(books: Books, model: u64) -> Ready
     }
 }
 
-// By input: output 0, 10; output below the limit, 2. By output: input above the limit, 2.
-fn slippage_number(by_input: bool, input: u64, output: u64, limit: u64) -> u64
-    ensures { λ r. ⌜ r ≡ first (slippageTests «by_input» input output limit) ⌝ }
+// By input: what is received 0, 10, or below the limit, 2. By output: what is sent above the limit, 2.
+fn slippage_number(by_input: bool, amount: u64, limit: u64) -> u64
+    ensures { λ r. ⌜ r ≡ first (limitTests «by_input» amount limit) ⌝ }
 {
     if by_input {
         return first2(
-            output == 0,
+            amount == 0,
             REQUIRE_VIOLATED,
-            output < limit,
+            amount < limit,
             EXCEEDED_SLIPPAGE,
         );
     }
-    first1(input > limit, EXCEEDED_SLIPPAGE)
+    first1(amount > limit, EXCEEDED_SLIPPAGE)
 }
 
-// What the calculator answers.
+// What the calculator answers on the amount at the vault.
 fn calculate(
     by_input: bool,
-    fee_on_input: bool,
-    rates: Rates,
-    creator_rate: u64,
-    net_in: u64,
-    net_out: u64,
+    terms: Terms,
+    zero_in: bool,
+    net0: u64,
+    net1: u64,
     amount: u64,
 ) -> SwapAnswer
-    ensures { λ r. ⌜ r ≡ answerAt «by_input» «fee_on_input» rates «creator_rate» «net_in» «net_out» amount ⌝ }
+    ensures { λ r. ⌜ r ≡ answerOf «by_input» terms «zero_in» net0 net1 amount ⌝ }
 {
+    let fee_on_input = is_creator_fee_on_input(terms.fee_model, zero_in);
+    let creator_rate = terms.adjust_creator_fee_rate();
+    let net_in = of_token(zero_in, net0, net1);
+    let net_out = of_token(zero_in, net1, net0);
+    let rates = terms.rates;
     if by_input {
         swap_base_input(fee_on_input, rates, creator_rate, net_in, net_out, amount)
     } else {
@@ -149,23 +184,43 @@ fn calculate(
     }
 }
 
-// The answer held to its limit.
-fn hold_to_limit(by_input: bool, answer: SwapAnswer, limit: u64) -> Priced
-    ensures { λ r. ⌜ r ≡ pricedAt «by_input» limit answer ⌝ }
+// The answer held to its limit, which is on the solver's side: by output 14 where no u64 leaves the input.
+fn hold_to_limit(
+    by_input: bool,
+    terms: Terms,
+    zero_in: bool,
+    answer: SwapAnswer,
+    limit: u64,
+) -> Priced
+    ensures { λ r. ⌜ r ≡ pricedAt «by_input» terms «zero_in» limit answer ⌝ }
 {
+    let charges = terms.charges;
     match answer {
         SwapAnswer::Refused(number) => {
             let result = no_result();
-            Priced { number, result }
+            let charge = 0;
+            Priced {
+                number,
+                result,
+                charge,
+            }
         }
         SwapAnswer::Swapped(s) => {
-            let number = slippage_number(by_input, s.input, s.output, limit);
-            Priced { number, result: s }
+            let near = near_token(by_input, zero_in);
+            let moved = of_token(by_input, s.output, s.input);
+            let end = charges.transfer_one(!near, by_input, moved);
+            let slippage = slippage_number(by_input, end.amount, limit);
+            let number = either(end.number, slippage);
+            Priced {
+                number,
+                result: s,
+                charge: end.charge,
+            }
         }
     }
 }
 
-// The front; the nets; the calculator's answer, held to its limit.
+// The front, on the amount itself; the amount at the vault; the nets; the calculator's answer, held to its limit.
 pub fn quote_swap(
     by_input: bool,
     terms: Terms,
@@ -182,34 +237,35 @@ pub fn quote_swap(
     if front != ACCEPTED {
         return refused_quote(front);
     }
+    let zero_in = direction == 0;
+    let moved = move_amount(by_input, terms, zero_in, amount);
+    if moved.number != ACCEPTED {
+        return refused_quote(moved.number);
+    }
     let ready = find_nets(books, terms.fee_model);
     if ready.number != ACCEPTED {
         return refused_quote(ready.number);
     }
-    let zero_in = direction == 0;
-    let fee_on_input = is_creator_fee_on_input(terms.fee_model, zero_in);
-    let creator_rate = terms.adjust_creator_fee_rate();
-    let net_in = of_token(zero_in, ready.net0, ready.net1);
-    let net_out = of_token(zero_in, ready.net1, ready.net0);
-    let rates = terms.rates;
     let answer = calculate(
         by_input,
-        fee_on_input,
-        rates,
-        creator_rate,
-        net_in,
-        net_out,
-        amount,
+        terms,
+        zero_in,
+        ready.net0,
+        ready.net1,
+        moved.amount,
     );
-    let priced = hold_to_limit(by_input, answer, limit);
+    let priced = hold_to_limit(by_input, terms, zero_in, answer, limit);
     if priced.number != ACCEPTED {
         return refused_quote(priced.number);
     }
     let result = priced.result;
+    let near = near_token(by_input, zero_in);
+    let charged = charged_for(near, moved.charge, priced.charge);
     Quote {
         number: ACCEPTED,
         result,
         net0: ready.net0,
         net1: ready.net1,
+        charged,
     }
 }

@@ -1,4 +1,6 @@
-// A pool's terms: its rates with their limits, its fee model and its open time (document 01, 'The calls' and 'constant_product.rs, then calculator.rs').
+// A pool's terms: its rates with their limits, its tokens' charges, its fee model and its open time (document 01, 'The calls' and
+// 'constant_product.rs, then calculator.rs', with document 02 (c)).
+use charge::Charges;
 use fees::FEE_RATE_DENOMINATOR_VALUE;
 use refusal::ACCEPTED;
 use refusal::INVALID_INPUT;
@@ -18,6 +20,7 @@ pub struct Rates {
 // What an opening sets for good. The flag stands last, so that all other fields are copied as whole numbers.
 pub struct Terms {
     pub rates: Rates,
+    pub charges: Charges,
     pub fee_model: u64,
     pub open_time: u64,
     pub enabled: bool,

@@ -1,5 +1,7 @@
 // What a call shows of itself.
 use accounting::Books;
+use charge::Charged;
+use charge::nothing_charged;
 ghost use mathlib.Core.Path.{_≡_};
 ghost use Rattle.receipt.specs.Receipt.{nothingPaid, noTrade, nothingShared, refusal, refusedBooks, amounts};
 
@@ -25,9 +27,10 @@ pub struct Receipt {
     pub paid: Paid,
     pub trade: Trade,
     pub shared: Shared,
+    pub charged: Charged,
 }
 
-// What was paid into the pool and out of it, and the LP tokens that were issued or burnt.
+// What reached the vaults and what left them, and the LP tokens that were issued or burnt.
 pub struct Paid {
     pub in0: u64,
     pub in1: u64,
@@ -102,12 +105,14 @@ pub fn refusal_receipt(number: u64) -> Receipt
     let paid = nothing_paid();
     let trade = no_trade();
     let shared = nothing_shared();
+    let charged = nothing_charged();
     Receipt {
         number,
         kind: 0,
         paid,
         trade,
         shared,
+        charged,
     }
 }
 
@@ -120,8 +125,16 @@ pub fn refuse_books(books: Books, number: u64) -> BooksAfter
 }
 
 // The receipt of an accepted call without fees.
-pub fn amounts_receipt(kind: u64, in0: u64, in1: u64, out0: u64, out1: u64, lp: u64) -> Receipt
-    ensures { λ r. ⌜ r ≡ amounts kind in0 in1 out0 out1 lp ⌝ }
+pub fn amounts_receipt(
+    kind: u64,
+    in0: u64,
+    in1: u64,
+    out0: u64,
+    out1: u64,
+    lp: u64,
+    charged: Charged,
+) -> Receipt
+    ensures { λ r. ⌜ r ≡ amounts kind in0 in1 out0 out1 lp charged ⌝ }
 {
     let trade = no_trade();
     let shared = nothing_shared();
@@ -137,5 +150,6 @@ pub fn amounts_receipt(kind: u64, in0: u64, in1: u64, out0: u64, out1: u64, lp: 
         },
         trade,
         shared,
+        charged,
     }
 }

@@ -1,4 +1,5 @@
 // The functions alone: kinds 10 to 34.
+use crate::row::ROW_NUMBERS;
 use crate::row::nth;
 use crate::row::pool_at;
 use crate::row::same;
@@ -8,6 +9,9 @@ use accounting::Nets;
 use accounting::SwapFees;
 use accounting::creator_token;
 use answer::Answer;
+use charge::Charge;
+use charge::get_transfer_fee;
+use charge::get_transfer_inverse_fee;
 use curve::constant_product::LpTokens;
 use curve::constant_product::RoundDirection;
 use curve::constant_product::TradingTokenResult;
@@ -27,8 +31,12 @@ use prices::token_prices_x32;
 use rates::is_creator_fee_on_input;
 use words::stand_at;
 
-// What a fee or the curve answers; a kind that there is not, nothing that a row has.
+// What a fee, a charge or the curve answers; a kind that there is not, nothing that a row has.
 fn answer_to(kind: u64, a: u64, b: u64, c: u64) -> Answer {
+    let charge = Charge {
+        points: b,
+        maximum: c,
+    };
     match kind {
         10 => trading_fee(a, b),
         11 => protocol_fee(a, b),
@@ -37,6 +45,8 @@ fn answer_to(kind: u64, a: u64, b: u64, c: u64) -> Answer {
         14 => creator_fee_shared_amount(a, b),
         15 => split_creator_fee(a, b, c),
         16 => calculate_pre_fee_amount(a, b),
+        18 => Answer::Amount(get_transfer_fee(charge, a)),
+        19 => get_transfer_inverse_fee(charge, a),
         20 => swap_base_input_without_fees(a, b, c),
         21 => swap_base_output_without_fees(a, b, c),
         _ => Answer::Refused(99),
@@ -44,7 +54,7 @@ fn answer_to(kind: u64, a: u64, b: u64, c: u64) -> Answer {
 }
 
 // Number and amount; a refused function gives 0.
-pub(crate) fn amount(row: &[u64; 80]) -> bool {
+pub(crate) fn amount(row: &[u64; ROW_NUMBERS]) -> bool {
     match answer_to(nth(row, 0), nth(row, 2), nth(row, 3), nth(row, 4)) {
         Answer::Amount(amount) => same(row, 5, 0, amount, 0, 0, 0),
         Answer::Refused(number) => same(row, 5, number, 0, 0, 0, 0),
@@ -59,7 +69,7 @@ fn rounding(up: bool) -> RoundDirection {
     }
 }
 
-pub(crate) fn lp_tokens(row: &[u64; 80]) -> bool {
+pub(crate) fn lp_tokens(row: &[u64; ROW_NUMBERS]) -> bool {
     let lp = LpTokens(nth(row, 2));
     let supply = LpTokens(nth(row, 3));
     let net0 = TradingTokens(nth(row, 4));
@@ -74,29 +84,29 @@ pub(crate) fn lp_tokens(row: &[u64; 80]) -> bool {
 }
 
 // The nets of a pool of which the other numbers are 0.
-pub(crate) fn nets(row: &[u64; 80]) -> bool {
+pub(crate) fn nets(row: &[u64; ROW_NUMBERS]) -> bool {
     match pool_at(row, 2).nets() {
-        Nets::Of(net0, net1) => same(row, 23, 0, net0, net1, 0, 0),
-        Nets::Refused(number) => same(row, 23, number, 0, 0, 0, 0),
+        Nets::Of(net0, net1) => same(row, 27, 0, net0, net1, 0, 0),
+        Nets::Refused(number) => same(row, 27, number, 0, 0, 0, 0),
     }
 }
 
-pub(crate) fn prices(row: &[u64; 80]) -> bool {
+pub(crate) fn prices(row: &[u64; ROW_NUMBERS]) -> bool {
     match token_prices_x32(pool_at(row, 2)) {
         Prices::Of(price0, price1) => same(
             row,
-            23,
+            27,
             0,
             price0.high,
             price0.low,
             price1.high,
             price1.low,
         ),
-        Prices::Refused(number) => same(row, 23, number, 0, 0, 0, 0),
+        Prices::Refused(number) => same(row, 27, number, 0, 0, 0, 0),
     }
 }
 
-fn counters_agree(number: u64, after: FeeCounters, row: &[u64; 80]) -> bool {
+fn counters_agree(number: u64, after: FeeCounters, row: &[u64; ROW_NUMBERS]) -> bool {
     let found = [
         number,
         after.protocol0,
@@ -110,7 +120,7 @@ fn counters_agree(number: u64, after: FeeCounters, row: &[u64; 80]) -> bool {
 }
 
 // A refused booking gives back the counters that were lent.
-pub(crate) fn booking(row: &[u64; 80]) -> bool {
+pub(crate) fn booking(row: &[u64; ROW_NUMBERS]) -> bool {
     let lent = FeeCounters {
         protocol0: nth(row, 2),
         protocol1: nth(row, 3),
@@ -132,7 +142,7 @@ pub(crate) fn booking(row: &[u64; 80]) -> bool {
     }
 }
 
-pub(crate) fn fee_side(row: &[u64; 80]) -> bool {
+pub(crate) fn fee_side(row: &[u64; ROW_NUMBERS]) -> bool {
     let on_input = is_creator_fee_on_input(nth(row, 2), nth(row, 3) == 0);
     let shown = if on_input { 1 } else { 0 };
     same(row, 4, 0, shown, 0, 0, 0)

@@ -1,4 +1,5 @@
 // How many rows of one kind there are, how many of them are altered, and how many agree.
+use crate::row::ROW_NUMBERS;
 use crate::row::nth;
 use columns::format_column;
 use libc::STDOUT_FILENO;
@@ -62,7 +63,7 @@ impl Count {
         Count::new(kind)
     }
 
-    pub(crate) fn with_row(self, row: &[u64; 80], agrees: bool) -> Count {
+    pub(crate) fn with_row(self, row: &[u64; ROW_NUMBERS], agrees: bool) -> Count {
         let count = self.of_kind(nth(row, 0));
         let altered = one_if(nth(row, 1) == ALTERED);
         Count {

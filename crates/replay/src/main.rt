@@ -10,10 +10,11 @@ mod row;
 use count::Count;
 use libc::STDIN_FILENO;
 use reading::Reading;
+use row::ROW_NUMBERS;
 use row::nth;
 
 // Whether a row's answer is the one that is given.
-fn agrees(row: &[u64; 80]) -> bool {
+fn agrees(row: &[u64; ROW_NUMBERS]) -> bool {
     let kind = nth(row, 0);
     match kind {
         1 => on_pool::opening(row),

@@ -1,6 +1,7 @@
 // The calls: kinds 1 to 7.
 use crate::ring::ring_agrees;
 use crate::ring::ring_at;
+use crate::row::ROW_NUMBERS;
 use crate::row::nth;
 use crate::row::pool_at;
 use calls::Call;
@@ -15,6 +16,7 @@ use receipt::SETTLE_CREATOR_FEE;
 use receipt::SWAP_BASE_INPUT;
 use receipt::SWAP_BASE_OUTPUT;
 use receipt::WITHDRAW;
+use words::RECEIPT_WORDS;
 use words::opening_of;
 use words::pool_words;
 use words::receipt_words;
@@ -22,16 +24,17 @@ use words::stand_at;
 ghost use Prim.Native.Nat.{_≤_};
 
 // Receipt and pool from a place on.
-fn after_agrees(after: After, row: &[u64; 80], at: usize) -> bool
+fn after_agrees(after: After, row: &[u64; ROW_NUMBERS], at: usize) -> bool
     requires { ⌜ at ≤ 60 ⌝ }
 {
     let pool = after.pool;
     let receipt = after.receipt;
-    stand_at(&receipt_words(receipt), row, at) & stand_at(&pool_words(pool), row, at + 16)
+    stand_at(&receipt_words(receipt), row, at)
+        & stand_at(&pool_words(pool), row, at + RECEIPT_WORDS)
 }
 
 // An opening's ring is one number throughout, which the row gives last.
-pub(crate) fn opening(row: &[u64; 80]) -> bool {
+pub(crate) fn opening(row: &[u64; ROW_NUMBERS]) -> bool {
     let opened = Pool::open(opening_of([
         nth(row, 2),
         nth(row, 3),
@@ -43,14 +46,18 @@ pub(crate) fn opening(row: &[u64; 80]) -> bool {
         nth(row, 9),
         nth(row, 10),
         nth(row, 11),
+        nth(row, 12),
+        nth(row, 13),
+        nth(row, 14),
+        nth(row, 15),
     ]));
     let entries = opened.entries;
-    let expected = [nth(row, 49); RING_WORDS];
-    stand_at(&entries, &expected, 0) & after_agrees(opened.after, row, 12)
+    let expected = [nth(row, 59); RING_WORDS];
+    stand_at(&entries, &expected, 0) & after_agrees(opened.after, row, 16)
 }
 
 // The row's call, of four arguments; those that it lacks are 0.
-fn call_of(row: &[u64; 80]) -> Call {
+fn call_of(row: &[u64; ROW_NUMBERS]) -> Call {
     let kind = nth(row, 0);
     let a = nth(row, 2);
     let b = nth(row, 3);
@@ -86,9 +93,9 @@ fn call_of(row: &[u64; 80]) -> Call {
 }
 
 // A call on a pool and its ring: receipt, pool and every number of the ring are compared.
-pub(crate) fn call(row: &[u64; 80]) -> bool {
-    let before = ring_at(row, 25, 27);
+pub(crate) fn call(row: &[u64; ROW_NUMBERS]) -> bool {
+    let before = ring_at(row, 25, 31);
     let mut entries = before;
     let after = apply(pool_at(row, 6), &mut entries, call_of(row));
-    ring_agrees(&entries, before, row, 67, 69) & after_agrees(after, row, 32)
+    ring_agrees(&entries, before, row, 73, 79) & after_agrees(after, row, 36)
 }

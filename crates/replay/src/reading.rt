@@ -1,7 +1,8 @@
 // Decimal numbers with one blank between, a newline at the end of a row.
+use crate::row::ROW_NUMBERS;
 
 pub struct Reading {
-    pub row: [u64; 80],
+    pub row: [u64; ROW_NUMBERS],
     pub count: usize,
     pub value: u64,
 }
@@ -28,7 +29,7 @@ fn wide(byte: u8) -> u64 {
 impl Reading {
     pub(crate) fn new() -> Self {
         Reading {
-            row: [0; 80],
+            row: [0; ROW_NUMBERS],
             count: 0,
             value: 0,
         }
@@ -44,7 +45,7 @@ impl Reading {
             }
         }
         let at = self.count;
-        if at < 80 {
+        if at < ROW_NUMBERS {
             out.row[at] = self.value;
             out.count = at + 1;
         }

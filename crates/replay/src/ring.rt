@@ -1,4 +1,5 @@
 // The ring's entries, of which a row gives the newest, and the ring alone.
+use crate::row::ROW_NUMBERS;
 use crate::row::nth;
 use crate::row::same;
 use oracle::RING_WORDS;
@@ -19,11 +20,11 @@ fn filled() -> [u64; RING_WORDS] {
 // The entries with five numbers of a row as the entry at an index that the row gives, if there is such an index.
 fn with_entry(
     entries: [u64; RING_WORDS],
-    row: &[u64; 80],
+    row: &[u64; ROW_NUMBERS],
     index_at: usize,
     at: usize,
 ) -> [u64; RING_WORDS]
-    requires { ⌜ («index_at» < 80) × (at ≤ 75) ⌝ }
+    requires { ⌜ («index_at» < 84) × (at ≤ 79) ⌝ }
 {
     let mut out = entries;
     let index = nth(row, index_at);
@@ -39,8 +40,8 @@ fn with_entry(
 }
 
 // The ring before a call: its index and its newest entry are in the row.
-pub(crate) fn ring_at(row: &[u64; 80], index_at: usize, at: usize) -> [u64; RING_WORDS]
-    requires { ⌜ («index_at» < 80) × (at ≤ 75) ⌝ }
+pub(crate) fn ring_at(row: &[u64; ROW_NUMBERS], index_at: usize, at: usize) -> [u64; RING_WORDS]
+    requires { ⌜ («index_at» < 84) × (at ≤ 79) ⌝ }
 {
     with_entry(filled(), row, index_at, at)
 }
@@ -49,18 +50,18 @@ pub(crate) fn ring_at(row: &[u64; 80], index_at: usize, at: usize) -> [u64; RING
 pub(crate) fn ring_agrees(
     entries: &[u64; RING_WORDS],
     before: [u64; RING_WORDS],
-    row: &[u64; 80],
+    row: &[u64; ROW_NUMBERS],
     index_at: usize,
     at: usize,
 ) -> bool
-    requires { ⌜ («index_at» < 80) × (at ≤ 75) ⌝ }
+    requires { ⌜ («index_at» < 84) × (at ≤ 79) ⌝ }
 {
     let expected = with_entry(before, row, index_at, at);
     stand_at(entries, &expected, 0)
 }
 
 // What `Ring::update` gives: number, used, index, mark.
-fn head_agrees(after: RingAfter, row: &[u64; 80]) -> bool {
+fn head_agrees(after: RingAfter, row: &[u64; ROW_NUMBERS]) -> bool {
     let ring = after.ring;
     let used = if ring.used { 1 } else { 0 };
     same(
@@ -75,7 +76,7 @@ fn head_agrees(after: RingAfter, row: &[u64; 80]) -> bool {
 }
 
 // `Ring::update`: used, index, mark, entry, clock, nets.
-pub(crate) fn update(row: &[u64; 80]) -> bool {
+pub(crate) fn update(row: &[u64; ROW_NUMBERS]) -> bool {
     let ring = Ring {
         index: nth(row, 3),
         mark: nth(row, 4),

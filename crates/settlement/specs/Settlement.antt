@@ -1,10 +1,14 @@
--- Document 01, 'Settlement' (share rate), over the books: the creators are paid, and the protocol gets its shared part.
+-- Document 01, 'Settlement' (share rate), with document 02 (c), over the tokens' charges c and the books b: the creators are paid, and the protocol
+-- gets its shared part.
 use Prim.Native.Nat.{ℕ, _+_, _-_}
 use mathlib.Core.List.{[], _∷_}
 use lib.Dec.{ltb}
 use Rattle.refusal.specs.Refusal.{InvalidInput, MathOverflow, InsufficientVault}
 use Rattle.refusal.specs.Tests.{Tests, past, outcome}
 use Rattle.fees.specs.Fees.{Million, feeDown}
+use Rattle.charge.specs.declared.Charges.{Charges}
+use Rattle.charge.specs.declared.Charged.{Charged}
+use Rattle.charge.specs.Charge.{chargedOn}
 use Rattle.accounting.specs.declared.FeeCounters.{FeeCounters}
 use Rattle.accounting.specs.declared.Books.{Books}
 use Rattle.receipt.specs.declared.Receipt.{Receipt}
@@ -33,26 +37,28 @@ settledCounters shared0 shared1 f = record {
   creator1 = 0;
 }
 
--- the creators' amounts as paid out, the shared parts apart
-unfoldable pub settlementReceipt : ℕ → ℕ → ℕ → ℕ → Receipt
-settlementReceipt out0 out1 shared0 shared1 =
+-- the creators' amounts as paid out, the shared parts and the charges apart
+unfoldable pub settlementReceipt : ℕ → ℕ → ℕ → ℕ → Charged → Receipt
+settlementReceipt out0 out1 shared0 shared1 charged =
     accepted SettleCreatorFee (record { in0 = 0; in1 = 0; out0 = out0; out1 = out1; lp = 0 }) noTrade
-    (record { shared0 = shared0; shared1 = shared1 })
+    (record { shared0 = shared0; shared1 = shared1 }) charged
 
--- the creators' amounts, each creator counter less its shared part, leave the vaults
-abbrev pub settled : ℕ → ℕ → Books → BooksAfter
-settled shared0 shared1 b = record {
+-- the creators' amounts, each creator counter less its shared part, leave the vaults, and bear the charges
+abbrev pub settled : ℕ → ℕ → Charges → Books → BooksAfter
+settled shared0 shared1 c b = record {
   books = record {
     vault0 = b .vault0 - (b .fees .creator0 - shared0);
     vault1 = b .vault1 - (b .fees .creator1 - shared1);
     fees = settledCounters shared0 shared1 (b .fees);
     supply = b .supply;
   };
-  receipt = settlementReceipt (b .fees .creator0 - shared0) (b .fees .creator1 - shared1) shared0 shared1;
+  receipt =
+      settlementReceipt (b .fees .creator0 - shared0) (b .fees .creator1 - shared1) shared0 shared1
+      (chargedOn c (b .fees .creator0 - shared0) (b .fees .creator1 - shared1));
 }
 
-unfoldable pub settlementAt : ℕ → ℕ → Books → ℕ → BooksAfter
-settlementAt shared0 shared1 b share = outcome (settlementTests shared0 shared1 b share) (refusedBooks b) (settled shared0 shared1 b)
+unfoldable pub settlementAt : ℕ → ℕ → Charges → Books → ℕ → BooksAfter
+settlementAt shared0 shared1 c b share = outcome (settlementTests shared0 shared1 b share) (refusedBooks b) (settled shared0 shared1 c b)
 
-unfoldable pub settlementAfter : Books → ℕ → BooksAfter
-settlementAfter b share = settlementAt (feeDown (b .fees .creator0) share) (feeDown (b .fees .creator1) share) b share
+unfoldable pub settlementAfter : Charges → Books → ℕ → BooksAfter
+settlementAfter c b share = settlementAt (feeDown (b .fees .creator0) share) (feeDown (b .fees .creator1) share) c b share

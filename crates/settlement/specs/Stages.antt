@@ -4,6 +4,7 @@ use mathlib.Core.List.{[], _∷_}
 use lib.Dec.{ltb}
 use Rattle.refusal.specs.Refusal.{MathOverflow, InsufficientVault}
 use Rattle.refusal.specs.Tests.{Tests, past, outcome}
+use Rattle.charge.specs.declared.Charges.{Charges}
 use Rattle.accounting.specs.declared.Books.{Books}
 use Rattle.receipt.specs.declared.BooksAfter.{BooksAfter}
 use Rattle.receipt.specs.Receipt.{refusedBooks}
@@ -19,5 +20,5 @@ paymentTests shared0 shared1 b =
     ∷ []
 
 -- a settlement whose share is in range
-unfoldable pub paidOut : ℕ → ℕ → Books → BooksAfter
-paidOut shared0 shared1 b = outcome (paymentTests shared0 shared1 b) (refusedBooks b) (settled shared0 shared1 b)
+unfoldable pub paidOut : ℕ → ℕ → Charges → Books → BooksAfter
+paidOut shared0 shared1 c b = outcome (paymentTests shared0 shared1 b) (refusedBooks b) (settled shared0 shared1 c b)

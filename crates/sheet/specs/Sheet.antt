@@ -7,6 +7,7 @@ use Rattle.refusal.specs.Refusal.{UnreadableRow}
 use Rattle.refusal.specs.Tests.{first}
 use Rattle.rates.specs.declared.Rates.{Rates}
 use Rattle.rates.specs.Rates.{rateTests}
+use Rattle.charge.specs.Charge.{noCharges}
 use Rattle.oracle.specs.Ring.{Entries}
 use Rattle.receipt.specs.declared.Receipt.{Receipt}
 use Rattle.pool.specs.declared.state.Pool.{Pool}
@@ -61,7 +62,7 @@ replaced s d = cond (eqb (d .after .receipt .number) 0) (called s d) (refusedRow
 abbrev pub unlessSpare : Bool → Sheet → Turn → Turn
 unlessSpare spare s t = cond spare t (refusedRow s UnreadableRow)
 
--- kind 1: amounts, model, enabled, open time; the rates are those of the last accepted row of kind 0
+-- kind 1: amounts, model, enabled, open time; the rates are those of the last accepted row of kind 0, and no token carries a charge
 abbrev pub openingWith : ℕ → ℕ → ℕ → ℕ → ℕ → Rates → Opening
 openingWith amount0 amount1 model enabled openTime rates = record {
   amount0 = amount0;
@@ -70,6 +71,7 @@ openingWith amount0 amount1 model enabled openTime rates = record {
   enabled = enabled;
   «open_time» = openTime;
   rates = rates;
+  charges = noCharges;
 }
 
 unfoldable pub perform : Sheet → Row → Turn

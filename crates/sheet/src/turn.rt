@@ -2,6 +2,7 @@
 // that the row's answer shows. The rates for the next opening go by value.
 use crate::call::call_for;
 use crate::call::is_readable;
+use charge::no_charges;
 use memory::lent::open_on;
 use memory::record::record_number;
 use memory::record::refuse;
@@ -104,6 +105,7 @@ fn perform_kind(
             },
         ),
         OPENING => {
+            let charges = no_charges();
             let opening = Opening {
                 amount0: a,
                 amount1: b,
@@ -111,6 +113,7 @@ fn perform_kind(
                 enabled: d,
                 open_time: e,
                 rates,
+                charges,
             };
             open_on(pool, ring, receipt, opening);
             rates

@@ -5,6 +5,7 @@ use mathlib.Core.List.{[], _∷_}
 use lib.Dec.{ltb, eqb}
 use Rattle.refusal.specs.Refusal.{InvalidInput}
 use Rattle.refusal.specs.Tests.{Tests, outcome}
+use Rattle.charge.specs.Charge.{nothingCharged}
 use Rattle.receipt.specs.Kind.{SetStatus}
 use Rattle.receipt.specs.Receipt.{refusal, amounts}
 use Rattle.status.specs.declared.StatusAfter.{StatusAfter}
@@ -27,4 +28,4 @@ statusTests bit flag =
 unfoldable pub statusAfter : ℕ → ℕ → ℕ → StatusAfter
 statusAfter status bit flag =
     outcome (statusTests bit flag) (λ n. record { status = status; receipt = refusal n })
-    (record { status = flagged bit flag status; receipt = amounts SetStatus 0 0 0 0 0 })
+    (record { status = flagged bit flag status; receipt = amounts SetStatus 0 0 0 0 0 nothingCharged })

@@ -1,4 +1,5 @@
 // A status change on the status alone: what it leaves of the status, and its receipt.
+use charge::nothing_charged;
 use receipt::Receipt;
 use receipt::SET_STATUS;
 use receipt::amounts_receipt;
@@ -35,7 +36,8 @@ pub fn decide(status: u64, bit: u64, flag: u64) -> StatusAfter
         return StatusAfter { status, receipt };
     }
     let next = with_bit(status, bit, flag);
-    let receipt = amounts_receipt(SET_STATUS, 0, 0, 0, 0, 0);
+    let charged = nothing_charged();
+    let receipt = amounts_receipt(SET_STATUS, 0, 0, 0, 0, 0, charged);
     StatusAfter {
         status: next,
         receipt,

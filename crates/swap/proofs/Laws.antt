@@ -13,6 +13,7 @@ use Rattle.rates.specs.declared.Terms.{Terms}
 use Rattle.rates.specs.Rates.{rateLimits, onInput}
 use Rattle.calculator.specs.declared.SwapResult.{SwapResult}
 use Rattle.calculator.specs.Calculator.{quoteTests}
+use Rattle.charge.specs.declared.Charged.{Charged}
 use Rattle.accounting.specs.declared.FeeCounters.{FeeCounters}
 use Rattle.accounting.specs.declared.Books.{Books}
 use Rattle.accounting.specs.declared.Booking.{Booking}
@@ -30,14 +31,14 @@ use Rattle.receipt.specs.declared.Shared.{Shared}
 use Rattle.receipt.specs.Kind.{SwapBaseInput, SwapBaseOutput}
 use Rattle.receipt.specs.Receipt.{nothingShared}
 use Rattle.quotes.specs.declared.Quote.{Quote}
-use Rattle.quotes.specs.Quotes.{resultOf, allTests, quoteOf}
+use Rattle.quotes.specs.Quotes.{vaultAmount, chargedOf, resultOf, allTests, quoteOf}
 use Rattle.quotes.proofs.Laws.{quote-number, quote-passed, quote-told}
 use Rattle.swap.specs.declared.SwapAfter.{SwapAfter}
 use Rattle.swap.specs.Swap.{lastTests, inputTests, outputTests, swapTests, refusedSwap, paidBooks, kindOf, swapReceipt, acceptedSwap, swapAfter}
 use Rattle.swap.specs.Stages.{bookTests, paidSwap, bookedSwap}
 
 -- ---- the booking: vault, then ring
-module _ (byInput zeroIn zeroFee : Bool) (s : SwapResult) (b : Books) (ring : Ring) (e : Entry) (n0 n1 clock : ℕ) where
+module _ (byInput zeroIn zeroFee : Bool) (s : SwapResult) (charged : Charged) (b : Books) (ring : Ring) (e : Entry) (n0 n1 clock : ℕ) where
   abbrev room : Tests
   room = (past (ofToken zeroIn (b .vault0) (b .vault1) + s .input), MathOverflow) ∷ []
 
@@ -46,7 +47,7 @@ module _ (byInput zeroIn zeroFee : Bool) (s : SwapResult) (b : Books) (ring : Ri
 
   module _ (fees : FeeCounters) (vault : ℕ) (v : vault ≡ first room) where
     abbrev paid : SwapAfter
-    paid = paidSwap byInput zeroIn zeroFee s fees b ring e n0 n1 clock
+    paid = paidSwap byInput zeroIn zeroFee s charged fees b ring e n0 n1 clock
 
     pub vault-refused : {r : SwapAfter} → r ≡ refusedSwap b ring vault → (vault ≡ 0 → ⊥) → r ≡ paid
     vault-refused r z = stopped room rings (refusedSwap b ring) _ _ vault v z r
@@ -66,7 +67,7 @@ module _ (byInput zeroIn zeroFee : Bool) (s : SwapResult) (b : Books) (ring : Ri
         ring-refused r w = gone room rings (refusedSwap b ring) _ _ vault-passed (r ∙ outcome-stop rings (refusedSwap b ring) _ _ ring-number w)
 
         pub pay-accepted :
-            (q : Books) (r : Receipt) → a .number ≡ 0 → q ≡ paidBooks zeroIn s fees b → r ≡ swapReceipt byInput zeroIn zeroFee s clock
+            (q : Books) (r : Receipt) → a .number ≡ 0 → q ≡ paidBooks zeroIn s fees b → r ≡ swapReceipt byInput zeroIn zeroFee s charged clock
             → record { books = q; ring = a .ring; receipt = r; update = u } ≡ paid
         unfolding acceptedSwap
         pay-accepted q r w p k =
@@ -74,27 +75,27 @@ module _ (byInput zeroIn zeroFee : Bool) (s : SwapResult) (b : Books) (ring : Ri
             gone room rings (refusedSwap b ring) _ _ vault-passed
             (rw (p, k, l, done)
             (outcome-all rings (refusedSwap b ring)
-            (acceptedSwap byInput zeroIn zeroFee s fees b ring e (price n0 n1) (price n1 n0) clock) (first-passed rings refl (sym w ∙ ring-number))))
+            (acceptedSwap byInput zeroIn zeroFee s charged fees b ring e (price n0 n1) (price n1 n0) clock) (first-passed rings refl (sym w ∙ ring-number))))
 
   -- the counters: refused, or the rest decides
   thenPaid : Booking → SwapAfter
   thenPaid (B.Refused n) = refusedSwap b ring n
-  thenPaid (B.Booked fees) = paidSwap byInput zeroIn zeroFee s fees b ring e n0 n1 clock
+  thenPaid (B.Booked fees) = paidSwap byInput zeroIn zeroFee s charged fees b ring e n0 n1 clock
 
   whole :
       thenPaid (bookingAnswer zeroIn zeroFee (s .protocol) (s .fund) (s .creator) (b .fees))
-      ≡ bookedSwap byInput zeroIn zeroFee s b ring e n0 n1 clock
+      ≡ bookedSwap byInput zeroIn zeroFee s charged b ring e n0 n1 clock
   unfolding thenPaid bookingAnswer bookedSwap
   whole = outcome-map thenPaid _ _ _ ∙ outcome-then _ _ _ _
 
   module _ (answer : Booking) (given : answer ≡ bookingAnswer zeroIn zeroFee (s .protocol) (s .fund) (s .creator) (b .fees)) where
-    pub book-refused : (n : ℕ) {r : SwapAfter} → answer ≡ B.Refused n → r ≡ refusedSwap b ring n → r ≡ bookedSwap byInput zeroIn zeroFee s b ring e n0 n1 clock
+    pub book-refused : (n : ℕ) {r : SwapAfter} → answer ≡ B.Refused n → r ≡ refusedSwap b ring n → r ≡ bookedSwap byInput zeroIn zeroFee s charged b ring e n0 n1 clock
     unfolding thenPaid
     book-refused n f r = r ∙ ap thenPaid (sym f ∙ given) ∙ whole
 
     pub book-paid :
-        (fees : FeeCounters) {r : SwapAfter} → answer ≡ B.Booked fees → r ≡ paidSwap byInput zeroIn zeroFee s fees b ring e n0 n1 clock
-        → r ≡ bookedSwap byInput zeroIn zeroFee s b ring e n0 n1 clock
+        (fees : FeeCounters) {r : SwapAfter} → answer ≡ B.Booked fees → r ≡ paidSwap byInput zeroIn zeroFee s charged fees b ring e n0 n1 clock
+        → r ≡ bookedSwap byInput zeroIn zeroFee s charged b ring e n0 n1 clock
     unfolding thenPaid
     book-paid fees f r = r ∙ ap thenPaid (sym f ∙ given) ∙ whole
 
@@ -114,7 +115,7 @@ kind-is true = refl
 kind-is false = refl
 
 pub receipt-is :
-    (byInput zeroIn zeroFee : Bool) (s : SwapResult) (clock kind i0 i1 o0 o1 side token : ℕ) (shared : Shared)
+    (byInput zeroIn zeroFee : Bool) (s : SwapResult) (charged : Charged) (clock kind i0 i1 o0 o1 side token : ℕ) (shared : Shared)
     → shared ≡ nothingShared → kind ≡ ofToken byInput SwapBaseInput SwapBaseOutput
     → i0 ≡ ofToken zeroIn (s .input) 0 → i1 ≡ ofToken zeroIn 0 (s .input)
     → o0 ≡ ofToken zeroIn 0 (s .output) → o1 ≡ ofToken zeroIn (s .output) 0
@@ -133,9 +134,10 @@ pub receipt-is :
         «creator_fee_token» = token;
       };
       shared = shared;
-    } ≡ swapReceipt byInput zeroIn zeroFee s clock
+      charged = charged;
+    } ≡ swapReceipt byInput zeroIn zeroFee s charged clock
 unfolding swapReceipt
-receipt-is byInput zeroIn zeroFee s clock kind i0 i1 o0 o1 side token shared h k a b c d e f = rw (h, k, kind-is byInput, a, b, c, d, e, f)
+receipt-is byInput zeroIn zeroFee s charged clock kind i0 i1 o0 o1 side token shared h k a b c d e f = rw (h, k, kind-is byInput, a, b, c, d, e, f)
 
 -- ---- the whole list
 module _ (t : Terms) (status : ℕ) (b : Books) (ring : Ring) (e : Entry) (direction amount limit clock : ℕ) (byInput : Bool) where
@@ -149,7 +151,10 @@ module _ (t : Terms) (status : ℕ) (b : Books) (ring : Ring) (e : Entry) (direc
   zeroFee = creatorToken fee zeroIn
 
   abbrev s : SwapResult
-  s = resultOf byInput t b zeroIn amount
+  s = resultOf byInput t b zeroIn (vaultAmount byInput t zeroIn amount)
+
+  abbrev charges : Charged
+  charges = chargedOf byInput t zeroIn amount s
 
   abbrev quotes : Tests
   quotes = allTests byInput t status b direction amount limit clock
@@ -159,7 +164,7 @@ module _ (t : Terms) (status : ℕ) (b : Books) (ring : Ring) (e : Entry) (direc
 
   abbrev good : SwapAfter
   good =
-      acceptedSwap byInput zeroIn zeroFee s (booked zeroIn zeroFee (s .protocol) (s .fund) (s .creator) (b .fees)) b ring e
+      acceptedSwap byInput zeroIn zeroFee s charges (booked zeroIn zeroFee (s .protocol) (s .fund) (s .creator) (b .fees)) b ring e
       (price (net0 b) (net1 b)) (price (net1 b) (net0 b)) clock
 
   -- the quote's tests, then the booking's, are the swap's
@@ -169,8 +174,9 @@ module _ (t : Terms) (status : ℕ) (b : Books) (ring : Ring) (e : Entry) (direc
     where
       go :
           (i : Bool)
-          → allTests i t status b direction amount limit clock then bookTests zeroIn zeroFee (resultOf i t b zeroIn amount) b ring e (net0 b) (net1 b) clock
-          ≡ swapTests i zeroIn fee zeroFee (resultOf i t b zeroIn amount) t status b ring e direction amount limit clock
+          → let r = resultOf i t b zeroIn (vaultAmount i t zeroIn amount) in
+          allTests i t status b direction amount limit clock then bookTests zeroIn zeroFee r b ring e (net0 b) (net1 b) clock
+          ≡ swapTests i zeroIn fee zeroFee r t status b ring e direction amount limit clock
       go true = refl
       go false = refl
 
@@ -187,7 +193,7 @@ module _ (t : Terms) (status : ℕ) (b : Books) (ring : Ring) (e : Entry) (direc
 
     pub quote-booked :
         q .number ≡ 0 → {fee′ token : Bool} {o : Entry} → fee′ ≡ fee → token ≡ creatorToken fee′ zeroIn → o ≡ e
-        → came ≡ bookedSwap byInput zeroIn token (q .result) b ring o (q .net0) (q .net1) clock
+        → came ≡ bookedSwap byInput zeroIn token (q .result) (q .charged) b ring o (q .net0) (q .net1) clock
         → came ≡ swapAfter byInput t status b ring e direction amount limit clock
     unfolding bookedSwap
     quote-booked z f k h d =

@@ -5,6 +5,7 @@ use mathlib.Core.List.{[], _∷_}
 use Rattle.refusal.specs.Refusal.{MathOverflow}
 use Rattle.refusal.specs.Tests.{Tests, _then_, past, outcome}
 use Rattle.calculator.specs.declared.SwapResult.{SwapResult}
+use Rattle.charge.specs.declared.Charged.{Charged}
 use Rattle.accounting.specs.declared.FeeCounters.{FeeCounters}
 use Rattle.accounting.specs.declared.Books.{Books}
 use Rattle.accounting.specs.Counters.{ofToken}
@@ -27,14 +28,14 @@ bookTests zeroIn zeroFee s b ring e n0 n1 clock =
     bookingTests zeroIn zeroFee (s .protocol) (s .fund) (s .creator) (b .fees) then payTests zeroIn s b ring e n0 n1 clock
 
 -- a swap whose counters are booked
-abbrev pub paidSwap : Bool → Bool → Bool → SwapResult → FeeCounters → Books → Ring → Entry → ℕ → ℕ → ℕ → SwapAfter
-paidSwap byInput zeroIn zeroFee s fees b ring e n0 n1 clock =
+abbrev pub paidSwap : Bool → Bool → Bool → SwapResult → Charged → FeeCounters → Books → Ring → Entry → ℕ → ℕ → ℕ → SwapAfter
+paidSwap byInput zeroIn zeroFee s charged fees b ring e n0 n1 clock =
     outcome (payTests zeroIn s b ring e n0 n1 clock) (refusedSwap b ring)
-    (acceptedSwap byInput zeroIn zeroFee s fees b ring e (price n0 n1) (price n1 n0) clock)
+    (acceptedSwap byInput zeroIn zeroFee s charged fees b ring e (price n0 n1) (price n1 n0) clock)
 
 -- a swap whose amounts are known
-unfoldable pub bookedSwap : Bool → Bool → Bool → SwapResult → Books → Ring → Entry → ℕ → ℕ → ℕ → SwapAfter
-bookedSwap byInput zeroIn zeroFee s b ring e n0 n1 clock =
+unfoldable pub bookedSwap : Bool → Bool → Bool → SwapResult → Charged → Books → Ring → Entry → ℕ → ℕ → ℕ → SwapAfter
+bookedSwap byInput zeroIn zeroFee s charged b ring e n0 n1 clock =
     outcome (bookTests zeroIn zeroFee s b ring e n0 n1 clock) (refusedSwap b ring)
-    (acceptedSwap byInput zeroIn zeroFee s (booked zeroIn zeroFee (s .protocol) (s .fund) (s .creator) (b .fees)) b ring e
+    (acceptedSwap byInput zeroIn zeroFee s charged (booked zeroIn zeroFee (s .protocol) (s .fund) (s .creator) (b .fees)) b ring e
     (price n0 n1) (price n1 n0) clock)

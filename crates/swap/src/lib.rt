@@ -7,6 +7,7 @@ use accounting::SwapFees;
 use accounting::creator_token;
 use accounting::of_token;
 use calculator::SwapResult;
+use charge::Charged;
 use lending::booked;
 use oracle::Observation;
 use oracle::RING_WORDS;
@@ -56,8 +57,15 @@ fn refused_swap(books: Books, ring: Ring, number: u64) -> SwapAfter
 }
 
 // The receipt of an accepted swap.
-fn swap_receipt(by_input: bool, zero_in: bool, zero_fee: bool, s: SwapResult, clock: u64) -> Receipt
-    ensures { λ r. ⌜ r ≡ swapReceipt «by_input» «zero_in» «zero_fee» s clock ⌝ }
+fn swap_receipt(
+    by_input: bool,
+    zero_in: bool,
+    zero_fee: bool,
+    s: SwapResult,
+    charged: Charged,
+    clock: u64,
+) -> Receipt
+    ensures { λ r. ⌜ r ≡ swapReceipt «by_input» «zero_in» «zero_fee» s charged clock ⌝ }
 {
     let input = s.input;
     let output = s.output;
@@ -82,6 +90,7 @@ fn swap_receipt(by_input: bool, zero_in: bool, zero_fee: bool, s: SwapResult, cl
             creator_fee_token: of_token(zero_fee, 0, 1),
         },
         shared,
+        charged,
     }
 }
 
@@ -106,6 +115,7 @@ fn book(
     zero_in: bool,
     zero_fee: bool,
     s: SwapResult,
+    charged: Charged,
     books: Books,
     ring: Ring,
     newest: Observation,
@@ -114,7 +124,7 @@ fn book(
     clock: u64,
 ) -> SwapAfter
     requires { ⌜ s .output ≤ ofToken «zero_in» (books .vault1) (books .vault0) ⌝ }
-    ensures { λ r. ⌜ r ≡ bookedSwap «by_input» «zero_in» «zero_fee» s books ring (entryOf newest) net0 net1 clock ⌝ }
+    ensures { λ r. ⌜ r ≡ bookedSwap «by_input» «zero_in» «zero_fee» s charged books ring (entryOf newest) net0 net1 clock ⌝ }
 {
     let counters = books.fees;
     let owed = SwapFees {
@@ -140,7 +150,7 @@ fn book(
                 return refused_swap(books, ring, number);
             }
             let head = next.ring;
-            let receipt = swap_receipt(by_input, zero_in, zero_fee, s, clock);
+            let receipt = swap_receipt(by_input, zero_in, zero_fee, s, charged, clock);
             return SwapAfter {
                 books: paid,
                 ring: head,
@@ -183,12 +193,14 @@ pub fn decide(
     let fee_on_input = is_creator_fee_on_input(terms.fee_model, zero_in);
     let zero_fee = creator_token(fee_on_input, zero_in);
     let result = quote.result;
+    let charged = quote.charged;
     let newest = ring.newest(entries);
     book(
         by_input,
         zero_in,
         zero_fee,
         result,
+        charged,
         books,
         ring,
         newest,

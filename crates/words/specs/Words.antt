@@ -1,4 +1,4 @@
--- The order of the numbers: the pool's record, its ring's head last; the receipt. And what it is for numbers to stand in a row.
+-- The order of the numbers: the pool's record, its ring's head, its tokens' charges last; the receipt. And what it is for numbers to stand in a row.
 use Prim.Native.Nat.{ℕ}
 use mathlib.Core.Bool.{Bool, true, false, cond}
 use mathlib.Core.List.{List, [], _∷_}
@@ -13,7 +13,7 @@ use Rattle.words.specs.declared.Holdings.{Holdings}
 
 -- the numbers of a record, and the places of its two flags
 abbrev pub poolLength : ℕ
-poolLength = 21
+poolLength = 25
 
 abbrev pub enabledAt : ℕ
 enabledAt = 12
@@ -32,6 +32,8 @@ poolWords p =
     ∷ p .books .supply ∷ p .status ∷ p .terms .«open_time» ∷ p .terms .«fee_model» ∷ word (p .terms .enabled)
     ∷ p .terms .rates .trade ∷ p .terms .rates .protocol ∷ p .terms .rates .fund ∷ p .terms .rates .creator ∷ p .terms .rates .share
     ∷ word (p .ring .used) ∷ p .ring .index ∷ p .ring .mark
+    ∷ p .terms .charges .token0 .points ∷ p .terms .charges .token0 .maximum
+    ∷ p .terms .charges .token1 .points ∷ p .terms .charges .token1 .maximum
     ∷ []
 
 abbrev pub receiptWords : Receipt → List ℕ
@@ -40,6 +42,7 @@ receiptWords r =
     ∷ r .paid .in0 ∷ r .paid .in1 ∷ r .paid .out0 ∷ r .paid .out1 ∷ r .paid .lp
     ∷ r .trade .«trade_fee» ∷ r .trade .«protocol_fee» ∷ r .trade .«fund_fee» ∷ r .trade .«creator_fee» ∷ r .trade .«creator_fee_token»
     ∷ r .shared .shared0 ∷ r .shared .shared1
+    ∷ r .charged .charge0 ∷ r .charged .charge1
     ∷ []
 
 abbrev pub at : List ℕ → ℕ → ℕ
@@ -58,6 +61,7 @@ openingOf w = record {
   enabled = at w 3;
   «open_time» = at w 4;
   rates = record { trade = at w 5; protocol = at w 6; fund = at w 7; creator = at w 8; share = at w 9 };
+  charges = record { token0 = record { points = at w 10; maximum = at w 11 }; token1 = record { points = at w 12; maximum = at w 13 } };
 }
 
 abbrev pub poolOf : List ℕ → Pool
@@ -70,6 +74,7 @@ poolOf w = record {
   };
   terms = record {
     rates = record { trade = at w 13; protocol = at w 14; fund = at w 15; creator = at w 16; share = at w 17 };
+    charges = record { token0 = record { points = at w 21; maximum = at w 22 }; token1 = record { points = at w 23; maximum = at w 24 } };
     «fee_model» = at w 11;
     «open_time» = at w 10;
     enabled = eqb (at w enabledAt) 1;
@@ -93,6 +98,7 @@ receiptOf w = record {
     «creator_fee_token» = at w 13;
   };
   shared = record { shared0 = at w 14; shared1 = at w 15 };
+  charged = record { charge0 = at w 16; charge1 = at w 17 };
 }
 
 -- what a row of the day sheet shows of a pool, and the rate at which it settles

@@ -1,6 +1,10 @@
-// The pool's record with its ring's head, and its receipt, as plain numbers, in a fixed order.
+// The pool's record with its ring's head, and its receipt, as plain numbers, in a fixed order: what document 02 adds stands behind what was
+// there.
 use accounting::Books;
 use accounting::FeeCounters;
+use charge::Charge;
+use charge::Charged;
+use charge::Charges;
 use opening::Opening;
 use oracle::Ring;
 use pool::state::Pool;
@@ -17,13 +21,13 @@ ghost use lib.ListN.{drop};
 ghost use Rattle.words.specs.Words.{poolWords, receiptWords, ratesOf, openingOf, poolOf, receiptOf, holdingsOf, shareOf, beginsWith};
 
 // How many numbers a pool's record has.
-pub const POOL_WORDS: usize = 21;
+pub const POOL_WORDS: usize = 25;
 
 // How many numbers a receipt has.
-pub const RECEIPT_WORDS: usize = 16;
+pub const RECEIPT_WORDS: usize = 18;
 
 // How many arguments an opening has.
-pub const OPENING_WORDS: usize = 10;
+pub const OPENING_WORDS: usize = 14;
 
 // The place in the record that says whether creator fees are enabled.
 pub const ENABLED_AT: usize = 12;
@@ -78,6 +82,10 @@ pub fn pool_words(p: Pool) -> [u64; POOL_WORDS]
         used,
         p.ring.index,
         p.ring.mark,
+        terms.charges.token0.points,
+        terms.charges.token0.maximum,
+        terms.charges.token1.points,
+        terms.charges.token1.maximum,
     ]
 }
 
@@ -102,6 +110,8 @@ pub fn receipt_words(r: Receipt) -> [u64; RECEIPT_WORDS]
         r.trade.creator_fee_token,
         r.shared.shared0,
         r.shared.shared1,
+        r.charged.charge0,
+        r.charged.charge1,
     ]
 }
 
@@ -118,10 +128,27 @@ pub fn rates_of(w: [u64; 5]) -> Rates
     }
 }
 
-// Ten numbers as the arguments of an opening, the rates last.
+// Points and maximum of token 0, then of token 1.
+fn charges_of(points0: u64, maximum0: u64, points1: u64, maximum1: u64) -> Charges
+    ensures { λ r. ⌜ r ≡ record { token0 = record { points = points0; maximum = maximum0 }; token1 = record { points = points1; maximum = maximum1 } } ⌝ }
+{
+    Charges {
+        token0: Charge {
+            points: points0,
+            maximum: maximum0,
+        },
+        token1: Charge {
+            points: points1,
+            maximum: maximum1,
+        },
+    }
+}
+
+// Fourteen numbers as the arguments of an opening, the rates and then the charges last.
 pub fn opening_of(w: [u64; OPENING_WORDS]) -> Opening
     ensures { λ r. ⌜ r ≡ openingOf w ⌝ }
 {
+    let charges = charges_of(w[10], w[11], w[12], w[13]);
     Opening {
         amount0: w[0],
         amount1: w[1],
@@ -135,6 +162,7 @@ pub fn opening_of(w: [u64; OPENING_WORDS]) -> Opening
             creator: w[8],
             share: w[9],
         },
+        charges,
     }
 }
 
@@ -142,6 +170,7 @@ pub fn opening_of(w: [u64; OPENING_WORDS]) -> Opening
 pub fn pool_of(w: [u64; POOL_WORDS]) -> Pool
     ensures { λ r. ⌜ r ≡ poolOf w ⌝ }
 {
+    let charges = charges_of(w[21], w[22], w[23], w[24]);
     Pool {
         books: Books {
             vault0: w[0],
@@ -164,6 +193,7 @@ pub fn pool_of(w: [u64; POOL_WORDS]) -> Pool
                 creator: w[16],
                 share: w[SHARE_AT],
             },
+            charges,
             fee_model: w[11],
             open_time: w[10],
             enabled: w[ENABLED_AT] == 1,
@@ -203,6 +233,10 @@ pub fn receipt_of(w: [u64; RECEIPT_WORDS]) -> Receipt
         shared: Shared {
             shared0: w[14],
             shared1: w[15],
+        },
+        charged: Charged {
+            charge0: w[16],
+            charge1: w[17],
         },
     }
 }

@@ -42,7 +42,7 @@ impl Afresh {
     }
 
     /// An accepted call's receipt; a refused call changes nothing.
-    pub fn count(&mut self, receipt: &[u64; 16]) {
+    pub fn count(&mut self, receipt: &[u64; 18]) {
         let number = |at: usize| u128::from(receipt[at]);
         let kind = receipt[KIND];
         if kind == 2 || kind == 3 {
@@ -89,7 +89,7 @@ impl Afresh {
 
 impl Books {
     /// What the port's memory holds.
-    pub fn held(pool: &[u64; 21], ring: &[u64; 500]) -> Books {
+    pub fn held(pool: &[u64; 25], ring: &[u64; 500]) -> Books {
         let pair = |at: usize| [pool[at], pool[at + 1]].map(u128::from);
         let newest = 5 * pool[19].min(99) as usize;
         let sum = |at: usize| u128::from(ring[newest + at]) << 64 | u128::from(ring[newest + at + 1]);

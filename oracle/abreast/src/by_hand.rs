@@ -2,6 +2,7 @@
 
 use crate::sides::{asked, FILL};
 use crate::tally::Tally;
+use beside::generator::charges::Charges;
 use beside::generator::hand;
 use beside::random::Random;
 use port::Port;
@@ -12,8 +13,8 @@ const FLAGS: [usize; 2] = [12, 18];
 const INVALID_INPUT: u64 = 3;
 const WRONG_FLAG_ONE_IN: u64 = 100;
 
-pub fn run_one(random: &mut Random, tally: &mut Tally) {
-    let case = hand::case(random);
+pub fn run_one(random: &mut Random, charges: Charges, tally: &mut Tally) {
+    let case = hand::case(random, charges);
     run_case(&case, tally);
     if random.chance(WRONG_FLAG_ONE_IN) {
         wrong_flag(random, &case, tally);

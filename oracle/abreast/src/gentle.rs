@@ -1,20 +1,22 @@
 //! Lists that a pool lives long with: openings of some size, swaps and changes of LP that leave
 //! most of it, and a clock that goes on by seconds.
 
+use beside::generator::charges::Charges;
+use beside::generator::list;
 use beside::random::Random;
-use record::{Case, State};
+use record::{Case, Opening, Rates, State};
 
 /// One list in so many is at a rate sum of 0.
 const FREE_ONE_IN: u64 = 8;
 
-pub fn opening(random: &mut Random) -> Case {
+pub fn opening(random: &mut Random, charges: Charges) -> Case {
     let amounts = [1_000_000 + (random.word() >> random.below(40)) / 4, 1_000_000 + random.sized() / 4];
     let (protocol, fund, share) = (random.below(500_000), random.below(500_000), random.below(1_000_001));
     let free = random.chance(FREE_ONE_IN);
     let (trade, creator) = if free { (0, 0) } else { (1 + random.below(20_000), random.below(20_000)) };
-    let terms = [random.below(3), random.below(2), 0];
-    let rates = [trade, protocol, fund, creator, share];
-    Case { kind: 1, columns: [&amounts[..], &terms, &rates].concat() }
+    let rates = Rates { trade, protocol, fund, creator, share };
+    let (fee_model, enabled) = (random.below(3), random.below(2));
+    list::of(Opening { amounts, fee_model, enabled, open_time: 0, rates, charges: charges(random) })
 }
 
 pub fn call(random: &mut Random, state: &State) -> Case {

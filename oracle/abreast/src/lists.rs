@@ -5,6 +5,7 @@ use crate::afresh::{Afresh, Books, Point};
 use crate::gentle;
 use crate::sides::{asked, FILL};
 use crate::tally::Tally;
+use beside::generator::charges::Charges;
 use beside::generator::list;
 use beside::random::Random;
 use port::Port;
@@ -28,15 +29,16 @@ impl Lists {
 
     /// One opening, and if it is accepted a list of calls. The port's memory is what the list
     /// before left, which a refused opening keeps.
-    pub fn run_one(&mut self, random: &mut Random, tally: &mut Tally) {
+    pub fn run_one(&mut self, random: &mut Random, charges: Charges, tally: &mut Tally) {
         let gentle = random.chance(GENTLE_ONE_IN);
-        let case = if gentle { gentle::opening(random) } else { list::opening(random) };
+        let case = if gentle { gentle::opening(random, charges) } else { list::opening(random, charges) };
         let after = asked(&self.state, &case, &mut self.port, tally);
         let Some(Call::Opening(opening)) = case.call().filter(|_| after.number == 0) else {
             return;
         };
         self.state = after.state;
         tally.lists += 1;
+        tally.charged_lists += u64::from(case.bears_charges());
         let length = if gentle { GENTLE_LENGTH } else { 5 + random.below(60) };
         let mut claims = Claims { afresh: Afresh::at_opening(opening.amounts), points: Vec::new() };
         claims.check(&self.port, &case, tally);
@@ -60,6 +62,7 @@ impl Lists {
         }
         claims.check(&self.port, case, tally);
         tally.list_calls += 1;
+        tally.charged_list_calls += u64::from(case.bears_charges());
         tally.ring_rounds += u64::from(after.state.pool.head.index < self.state.pool.head.index);
         self.state = after.state;
     }

@@ -9,6 +9,7 @@ mod sides;
 mod tally;
 mod wide;
 
+use beside::generator::charges::{self, Charges};
 use beside::generator::small;
 use beside::random::Random;
 use beside::{differences, edges, late};
@@ -16,6 +17,8 @@ use std::process::ExitCode;
 use tally::Tally;
 
 const USAGE: &str = "usage: abreast SEED COUNT | abreast small";
+/// For so many calls at points 0 there is one on a pool with charges.
+const CHARGED_ONE_FOR: u64 = 4;
 
 fn main() -> ExitCode {
     let words: Vec<String> = std::env::args().skip(1).collect();
@@ -44,21 +47,28 @@ fn all_small() -> Tally {
     tally
 }
 
-/// The edges and the rows of docs/DIFFERENCES.md; then lists from openings and calls by hand in
-/// turn, as many of one as of the other.
+/// The edges and the rows of docs/DIFFERENCES.md; then as many calls at points 0 as are asked for, and
+/// more on pools with charges, where the original is not asked.
 fn compared(seed: u64, count: u64) -> Tally {
+    let charged = count / CHARGED_ONE_FOR;
     let mut random = Random::new(seed);
-    let mut lists = lists::Lists::new();
-    let mut tally = Tally::of(count);
+    let mut tally = Tally::of(count + charged);
     for case in [edges::cases(), differences::cases(), late::cases()].concat() {
         by_hand::run_case(&case, &mut tally);
     }
-    while tally.calls < count {
+    generated(&mut random, charges::none, &mut tally, |tally| tally.calls - tally.charged_calls >= count);
+    generated(&mut random, charges::some, &mut tally, |tally| tally.charged_calls >= charged);
+    tally
+}
+
+/// Lists from openings and calls by hand in turn, as many of one as of the other.
+fn generated(random: &mut Random, charges: Charges, tally: &mut Tally, enough: impl Fn(&Tally) -> bool) {
+    let mut lists = lists::Lists::new();
+    while !enough(tally) {
         let before = tally.calls;
-        lists.run_one(&mut random, &mut tally);
+        lists.run_one(random, charges, tally);
         for _ in before..tally.calls {
-            by_hand::run_one(&mut random, &mut tally);
+            by_hand::run_one(random, charges, tally);
         }
     }
-    tally
 }

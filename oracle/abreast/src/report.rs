@@ -1,17 +1,18 @@
 //! The result, as it goes into docs/COMPARISON.md.
 
-use crate::tally::Tally;
+use crate::tally::{Answers, Tally};
 use beside::verdict::Side;
 use std::fmt::Write;
 
 const KINDS: [u64; 7] = [1, 2, 3, 4, 5, 6, 7];
-const GREATEST_NUMBER: u64 = 13;
+const GREATEST_NUMBER: u64 = 14;
 
 pub fn page(tally: &Tally, command: &str) -> String {
     let mut page = String::new();
     let put = "a String can always be written";
     writeln!(page, "{}", sentence(tally, command)).expect(put);
-    writeln!(page, "\n{}", answers(tally)).expect(put);
+    writeln!(page, "\n{}", answers("call", &tally.answers)).expect(put);
+    writeln!(page, "{}", answers("call with charges", &tally.charged_answers)).expect(put);
     writeln!(page, "{}", classes(tally)).expect(put);
     for fault in &tally.faults {
         writeln!(page, "FAULT {}: `{}`", fault.what, fault.case).expect(put);
@@ -21,22 +22,45 @@ pub fn page(tally: &Tally, command: &str) -> String {
 
 fn sentence(tally: &Tally, command: &str) -> String {
     format!(
-        "`oracle/compare {command}`: {} calls in {:.0} s.\n\n\
-         - the port beside the rules, every number of receipt, pool and ring: **{} differences**; \
-         {} more calls on records with a wrong flag, each refused with 3\n\
-         - the original beside the rules, outside the rows of DIFFERENCES.md: **{} differences**; \
-         left to the model: {}\n\
-         - demand 3's claims over {} lists ({} calls, {} rounds of the ring): {} points afresh and \
-         floor, {} pairs of points rise, **{} failures**",
+        "`oracle/compare {command}`: {} calls in {:.0} s, {} of them on pools with charges.\n\n{}\n{}\n{}",
         grouped(tally.calls),
         tally.seconds(),
+        grouped(tally.charged_calls),
+        port_side(tally),
+        original_side(tally),
+        claims(tally),
+    )
+}
+
+fn port_side(tally: &Tally) -> String {
+    let [output, input, deposit] = tally.fourteens.map(grouped);
+    format!(
+        "- the port beside the rules, every number of receipt, pool and ring: **{} differences**; \
+         {} more calls on records with a wrong flag, each refused with 3; \
+         14 for a swap's output {output} times, for its input {input}, for a deposit {deposit}",
         tally.port_faults,
         grouped(tally.wrong_flags),
+    )
+}
+
+fn original_side(tally: &Tally) -> String {
+    format!(
+        "- the original beside the rules, outside the rows of DIFFERENCES.md: **{} differences**; \
+         left to the model: {}",
         tally.original_faults,
         left(tally),
+    )
+}
+
+fn claims(tally: &Tally) -> String {
+    format!(
+        "- demand 3's claims over {} lists ({} calls, {} rounds of the ring; {} lists and {} calls of these \
+         with charges): {} points afresh and floor, {} pairs of points rise, **{} failures**",
         grouped(tally.lists),
         grouped(tally.list_calls),
         grouped(tally.ring_rounds),
+        grouped(tally.charged_lists),
+        grouped(tally.charged_list_calls),
         grouped(tally.points),
         grouped(tally.pairs),
         tally.claim_faults,
@@ -49,15 +73,15 @@ fn left(tally: &Tally) -> String {
     counts.collect::<Vec<_>>().join("; ")
 }
 
-fn answers(tally: &Tally) -> String {
-    let given = |number: &u64| KINDS.iter().any(|kind| tally.answers.contains_key(&(*kind, *number)));
+fn answers(title: &str, answers: &Answers) -> String {
+    let count = |kind: u64, number: u64| answers.get(&(kind, number)).copied().unwrap_or(0);
+    let given = |number: &u64| KINDS.iter().any(|kind| count(*kind, *number) > 0);
     let seen: Vec<u64> = (0..=GREATEST_NUMBER).filter(given).collect();
     let titles: Vec<String> = seen.iter().map(u64::to_string).collect();
-    let mut table = format!("| call | {} |\n|---|{}\n", titles.join(" | "), "---:|".repeat(seen.len()));
+    let mut table = format!("| {title} | {} |\n|---|{}\n", titles.join(" | "), "---:|".repeat(seen.len()));
     for kind in KINDS {
         let name = record::form(kind).expect("every call has its form").name;
-        let counts = seen.iter().map(|number| tally.answers.get(&(kind, *number)).copied().unwrap_or(0));
-        let counts: Vec<String> = counts.map(grouped).collect();
+        let counts: Vec<String> = seen.iter().map(|number| grouped(count(kind, *number))).collect();
         table += &format!("| `{name}` | {} |\n", counts.join(" | "));
     }
     table

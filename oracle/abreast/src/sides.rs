@@ -21,7 +21,7 @@ pub struct Fault {
 pub fn asked(before: &State, case: &Case, port: &mut Port, tally: &mut Tally) -> After {
     let call = case.call().expect("only calls are put to the port");
     let document = model::run(before, &call);
-    tally.answered(case.kind, document.number);
+    tally.answered(case, document.number);
     port_side(case, &call, &document, port, tally);
     match case.left_to_model() {
         Some(left) => tally.left_to_model(left, document.number, case),
@@ -32,7 +32,7 @@ pub fn asked(before: &State, case: &Case, port: &mut Port, tally: &mut Tally) ->
 
 /// The port gives the rules' whole answer, and of a refused call writes only the receipt.
 fn port_side(case: &Case, call: &Call, document: &After, port: &mut Port, tally: &mut Tally) {
-    port.receipt = [FILL; 16];
+    port.receipt.fill(FILL);
     let expected = match document.number {
         0 => Port::with(&document.state, &document.receipt),
         number => port.refused(number),

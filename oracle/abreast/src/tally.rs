@@ -1,10 +1,11 @@
 //! What was counted, and the faults.
 
 use crate::sides::Fault;
+use beside::generator::charges::most_arriving;
 use beside::left::LeftCounts;
 use beside::page;
 use beside::verdict::Side;
-use record::{Case, Left};
+use record::{Call, Case, Left};
 use std::collections::BTreeMap;
 use std::time::Instant;
 
@@ -18,12 +19,19 @@ pub struct Class {
     pub count: u64,
 }
 
+pub type Answers = BTreeMap<(u64, u64), u64>;
+
 pub struct Tally {
     wanted: u64,
     start: Instant,
     pub calls: u64,
-    /// By kind and number.
-    pub answers: BTreeMap<(u64, u64), u64>,
+    /// Calls on pools with points above 0; openings are on none.
+    pub charged_calls: u64,
+    /// By kind and number, at points 0 and with points above 0.
+    pub answers: Answers,
+    pub charged_answers: Answers,
+    /// Where 14 was answered: for a swap's output, its input, a deposit.
+    pub fourteens: [u64; 3],
     pub classes: BTreeMap<String, Class>,
     /// Calls that were not put to the original.
     pub left: LeftCounts,
@@ -31,6 +39,8 @@ pub struct Tally {
     pub wrong_flags: u64,
     pub lists: u64,
     pub list_calls: u64,
+    pub charged_lists: u64,
+    pub charged_list_calls: u64,
     /// Lists that went once around the ring.
     pub ring_rounds: u64,
     pub points: u64,
@@ -47,12 +57,17 @@ impl Tally {
             wanted,
             start: Instant::now(),
             calls: 0,
+            charged_calls: 0,
             answers: BTreeMap::new(),
+            charged_answers: BTreeMap::new(),
+            fourteens: [0; 3],
             classes: BTreeMap::new(),
             left: LeftCounts::default(),
             wrong_flags: 0,
             lists: 0,
             list_calls: 0,
+            charged_lists: 0,
+            charged_list_calls: 0,
             ring_rounds: 0,
             points: 0,
             pairs: 0,
@@ -71,8 +86,14 @@ impl Tally {
         self.start.elapsed().as_secs_f64()
     }
 
-    pub fn answered(&mut self, kind: u64, number: u64) {
-        *self.answers.entry((kind, number)).or_default() += 1;
+    pub fn answered(&mut self, case: &Case, number: u64) {
+        let charged = case.bears_charges();
+        let answers = if charged { &mut self.charged_answers } else { &mut self.answers };
+        *answers.entry((case.kind, number)).or_default() += 1;
+        self.charged_calls += u64::from(charged && case.kind != 1);
+        if number == 14 {
+            self.fourteens[place_of_14(case)] += 1;
+        }
         self.calls += 1;
         if self.calls.is_multiple_of(PROGRESS_EVERY) {
             self.print_progress();
@@ -128,5 +149,16 @@ impl Tally {
             eprintln!("{}\n  {}", fault.what, fault.case);
             self.faults.push(fault);
         }
+    }
+}
+
+/// A swap's output where more is wanted than can arrive, else its input; or a deposit.
+fn place_of_14(case: &Case) -> usize {
+    match case.call() {
+        Some(Call::SwapByOutput(swap)) => {
+            let charge = case.pool().charges[usize::from(swap.direction == 0)];
+            usize::from(swap.amount <= most_arriving(charge))
+        }
+        _ => 2,
     }
 }

@@ -1,15 +1,18 @@
 //! Each bound of the rules at the last number that passes and at the first that doesn't, and places
-//! where the order of two steps decides. Each row says its number, some the fees too, and stands once
-//! more with the tokens exchanged.
+//! where the order of two steps decides. Each row says its number, some the fees or charges too, and
+//! stands once more with the tokens exchanged.
+
+mod charges;
 
 use crate::left::LeftCounts;
 use crate::verdict::{verdict, Side};
 use record::{filled_ring, Case, Entry, Pool, Rates, RingHead, State};
+use record::{POOL_COLUMNS, POOL_LENGTH, RECEIPT_COLUMNS};
 
 struct Bound {
     says: String,
     number: u64,
-    /// Columns of the answer that are the same with the tokens exchanged.
+    /// Columns of the answer.
     shows: Vec<(&'static str, u64)>,
     case: Case,
 }
@@ -56,7 +59,8 @@ fn bounds() -> Vec<Bound> {
         lp_tokens(),
         bookings(),
     ];
-    named.into_iter().flatten().flat_map(Bound::with_mirror).collect()
+    let charged = charges::bounds();
+    named.into_iter().flatten().chain(charged).flat_map(Bound::with_mirror).collect()
 }
 
 impl Bound {
@@ -66,7 +70,8 @@ impl Bound {
             return vec![self];
         }
         let says = "  the same with the tokens exchanged".into();
-        let mirror = Bound { says, number: self.number, shows: self.shows.clone(), case };
+        let shows = self.shows.iter().map(|(column, number)| (exchanged(column), *number)).collect();
+        let mirror = Bound { says, number: self.number, shows, case };
         vec![self, mirror]
     }
 
@@ -91,24 +96,42 @@ impl Bound {
     }
 }
 
+/// The column of the other token; a column that is of none stays.
+fn exchanged(column: &'static str) -> &'static str {
+    let other = match column.split_at(column.len() - 1) {
+        (name, "0") => format!("{name}1"),
+        (name, "1") => format!("{name}0"),
+        _ => return column,
+    };
+    let mut columns = RECEIPT_COLUMNS.into_iter().chain(POOL_COLUMNS);
+    columns.find(|column| *column == other).unwrap_or(column)
+}
+
+/// Where the arguments stand of a call that takes the pool, and of a swap, which takes an entry too.
+const ARGUMENTS: usize = POOL_LENGTH;
+const SWAP_ARGUMENTS: usize = POOL_LENGTH + 5;
+
 /// Token 0 for token 1 in every column.
 fn mirrored(case: &Case) -> Case {
-    const POOL: [(usize, usize); 4] = [(0, 1), (2, 3), (4, 5), (6, 7)];
+    const VAULTS: [(usize, usize); 4] = [(0, 1), (2, 3), (4, 5), (6, 7)];
+    const CHARGES: [(usize, usize); 2] = [(21, 23), (22, 24)];
+    const SUMS: [(usize, usize); 2] =
+        [(POOL_LENGTH + 1, POOL_LENGTH + 3), (POOL_LENGTH + 2, POOL_LENGTH + 4)];
     let (pairs, model, direction): (&[(usize, usize)], _, _) = match case.kind {
-        1 => (&[(0, 1)], Some(2), None),
-        2 | 3 => (&[(22, 24), (23, 25)], Some(11), Some(26)),
-        4 => (&[(22, 23)], Some(11), None),
-        5 => (&[(23, 24)], Some(11), None),
+        1 => (&[(0, 1), (10, 12), (11, 13)], Some(2), None),
+        2 | 3 => (&SUMS, Some(11), Some(SWAP_ARGUMENTS)),
+        4 => (&[(ARGUMENTS + 1, ARGUMENTS + 2)], Some(11), None),
+        5 => (&[(ARGUMENTS + 2, ARGUMENTS + 3)], Some(11), None),
         6 | 7 => (&[], Some(11), None),
         22 => (&[(2, 3)], None, None),
-        31 | 32 => (&POOL, None, None),
+        31 | 32 => (&VAULTS, None, None),
         33 => (&[(0, 1), (2, 3), (4, 5)], Some(6), Some(7)),
         36 => (&[(4, 6), (5, 7), (9, 10)], None, None),
         _ => (&[], None, None),
     };
-    let pool: &[(usize, usize)] = if matches!(case.kind, 2..=7) { &POOL } else { &[] };
+    let pool: &[&[(usize, usize)]] = if matches!(case.kind, 2..=7) { &[&VAULTS, &CHARGES] } else { &[] };
     let mut columns = case.columns.clone();
-    pairs.iter().chain(pool).for_each(|(one, other)| columns.swap(*one, *other));
+    pairs.iter().chain(pool.iter().copied().flatten()).for_each(|(one, other)| columns.swap(*one, *other));
     if let Some(model) = model {
         columns[model] = [0, 2, 1].get(columns[model] as usize).copied().unwrap_or(columns[model]);
     }
@@ -162,7 +185,7 @@ fn free(vaults: [u64; 2]) -> Pool {
 }
 
 fn opening(amounts: [u64; 2], model: u64, enabled: u64, rates: [u64; 5]) -> Case {
-    alone(1, &[&amounts[..], &[model, enabled, 0], &rates].concat())
+    alone(1, &[&amounts[..], &[model, enabled, 0], &rates, &[0; 4]].concat())
 }
 
 fn openings() -> Vec<Bound> {

@@ -2,7 +2,7 @@
 //! Part G has what the Rust no longer decides, and only there it is asked nevertheless.
 
 use crate::left::LeftCounts;
-use record::{Case, Left, State, POOL_COLUMNS};
+use record::{Case, Left, State, POOL_COLUMNS, POOL_LENGTH};
 use runner::{Cause, Outcome};
 
 struct Row {
@@ -54,6 +54,10 @@ fn rows() -> Vec<Row> {
         alone(),
         free_days(),
         closed_pools(),
+        charged_swaps_in(),
+        charged_swaps_out(),
+        charged_liquidity(),
+        charges(),
     ]
     .into_iter()
     .flatten()
@@ -66,7 +70,7 @@ fn row(row: &'static str, case: Case, rust: &'static str, port: u64) -> Row {
 
 /// A call on a pool of zeros but for these columns.
 fn on(columns: &[(&str, u64)], kind: u64, arguments: &[u64]) -> Case {
-    let mut words = [0; 21];
+    let mut words = [0; POOL_LENGTH];
     for (name, value) in columns {
         let at = POOL_COLUMNS.iter().position(|column| column == name).expect("the pool has this column");
         words[at] = *value;
@@ -82,6 +86,11 @@ fn worked(more: &[(&str, u64)], kind: u64, arguments: &[u64]) -> Case {
 
 fn function(kind: u64, columns: &[u64]) -> Case {
     Case { kind, columns: columns.to_vec() }
+}
+
+/// At fee model and rates 0, with these points of token 0.
+fn opening([amount_0, amount_1]: [u64; 2], points: u64) -> Case {
+    function(1, &[amount_0, amount_1, 0, 0, 0, 0, 0, 0, 0, 0, points, 0, 0, 0])
 }
 
 fn limits() -> Vec<Row> {
@@ -111,8 +120,8 @@ fn limits() -> Vec<Row> {
 
 fn added() -> Vec<Row> {
     vec![
-        row("B9", function(1, &[101, 101, 0, 0, 0, 0, 0, 0, 0, 0]), "has none", 0),
-        row("B10", function(1, &[100, 100, 0, 0, 0, 0, 0, 0, 0, 0]), "has none", 13),
+        row("B9", opening([101, 101], 0), "has none", 0),
+        row("B10", opening([100, 100], 0), "has none", 13),
         row("B11", on(&[], 7, &[3, 0]), "has none", 3),
         row("B12", on(&[], 7, &[0, 2]), "has none", 3),
         row("B13", on(&[("vault 1", 1), ("creator 1", 1)], 6, &[0]), "accepts", 0),
@@ -270,6 +279,93 @@ fn closed_pools() -> Vec<Row> {
         row("G14", on(&[("status", 2)], 5, &[1, 0, 0, 0]), "10", 1),
     ];
     left_to_model(rows, Left::AmountOnClosedPool)
+}
+
+/// Nets 1 and 3 at trade rate 1, where 3 in give 2, and one token charged.
+fn charged(token: usize, kind: u64, arguments: &[u64]) -> Case {
+    on_charged(&[("vault 0", 1), ("vault 1", 3), ("trade rate", 1)], token, kind, arguments)
+}
+
+/// A pool of which one token is charged 1 on every amount above 0.
+fn on_charged(pool: &[(&str, u64)], token: usize, kind: u64, arguments: &[u64]) -> Case {
+    const COLUMNS: [[&str; 2]; 2] = [["points 0", "maximum 0"], ["points 1", "maximum 1"]];
+    on(&[pool, &COLUMNS[token].map(|column| (column, 1))].concat(), kind, arguments)
+}
+
+/// Swaps by input of a charged token or for one, 02 (c): the Rust's tokens bear no charges.
+fn charged_swaps_in() -> Vec<Row> {
+    let one_by_two = [("vault 0", 1), ("vault 1", 2), ("trade rate", 1)];
+    let nearly_full = [("vault 0", MOST - 2), ("vault 1", 2), ("protocol 0", MOST - 3), ("trade rate", 1)];
+    let on_output = [("vault 0", 1), ("vault 1", 4), ("fee model", 2), ("enabled", 1), ("creator rate", 1)];
+    let rows = vec![
+        row("G15", charged(0, 2, &[0, 3, 0, 0]), "accepts", 0).shows(&TWO_ARRIVE),
+        row("G16", on_charged(&on_output, 0, 2, &[0, 1, 0, 0]), "accepts", 10),
+        row("G17", charged(1, 2, &[0, 3, 0, 0]), "accepts", 0).shows(&[("out 1", 2), ("charge 1", 1)]),
+        row("G18", on_charged(&one_by_two, 1, 2, &[0, 2, 0, 0]), "accepts", 10),
+        row("G19", charged(1, 2, &[0, 3, 2, 0]), "accepts", 2),
+        row("G20", on_charged(&nearly_full, 0, 2, &[0, 3, 0, 0]), "8 of the stand-in", 0)
+            .shows(&[("in 0", 2), ("vault 0", MOST)]),
+    ];
+    left_to_model(rows, Left::Charge)
+}
+
+const TWO_ARRIVE: [(&str, u64); 5] =
+    [("in 0", 2), ("out 1", 1), ("charge 0", 1), ("charge 1", 0), ("vault 0", 3)];
+
+/// Swaps by output, 02 (c).
+fn charged_swaps_out() -> Vec<Row> {
+    // One of two tokens 1 costs the net of token 0, and the fee with it is 2^64 - 1.
+    let costs_all = [("vault 0", 18_446_725_626_965_477_905), ("vault 1", 2), ("trade rate", 1)];
+    let rows = vec![
+        row("G21", charged(1, 3, &[0, 1, MOST, 0]), "accepts", 0).shows(&ONE_RECEIVED),
+        row("G22", charged(0, 3, &[0, 1, 2, 0]), "accepts", 2),
+        row("G23", charged(1, 3, &[0, 2, MOST, 0]), "accepts", 11),
+        row("G24", charged(1, 3, &[0, MOST, MOST, 0]), "panics at constant_product.rs:40", 14),
+        row("G25", on_charged(&costs_all, 0, 3, &[0, 1, MOST, 0]), "8 of the stand-in", 14),
+    ];
+    left_to_model(rows, Left::Charge)
+}
+
+const ONE_RECEIVED: [(&str, u64); 3] = [("out 1", 2), ("charge 1", 1), ("vault 1", 1)];
+
+/// Deposits, withdrawals and settlements, 02 (c).
+fn charged_liquidity() -> Vec<Row> {
+    let lp = [("vault 0", 1), ("vault 1", 1), ("supply", 1)];
+    let owed = [("vault 1", 1), ("creator 1", 1)];
+    let one = |token, kind, arguments: &[u64]| on_charged(&lp, token, kind, arguments);
+    let rows = vec![
+        row("G26", one(0, 4, &[1, MOST, MOST]), "accepts", 0).shows(&[
+            ("in 0", 1),
+            ("charge 0", 1),
+            ("vault 0", 2),
+        ]),
+        row("G27", one(0, 4, &[1, 1, MOST]), "accepts", 2),
+        row("G28", one(0, 4, &[MOST, MOST, MOST]), "8 of the stand-in", 14),
+        row("G29", one(0, 5, &[1, 1, 0, 0]), "accepts", 0).shows(&[
+            ("out 0", 1),
+            ("charge 0", 1),
+            ("vault 0", 0),
+        ]),
+        row("G30", one(0, 5, &[1, 1, 1, 0]), "accepts", 2),
+        row("G31", on_charged(&owed, 1, 6, &[0]), "accepts", 0).shows(&[
+            ("out 1", 1),
+            ("charge 1", 1),
+            ("vault 1", 0),
+        ]),
+    ];
+    left_to_model(rows, Left::Charge)
+}
+
+/// What the Rust has in a file that is stood in for, or not at all.
+fn charges() -> Vec<Row> {
+    let alone = vec![
+        row("G32", function(18, &[1, 1, 1]), "has none", 0).shows(&[("result", 1)]),
+        row("G33", function(19, &[1, 1, 1]), "has none", 0).shows(&[("result", 1)]),
+        row("G34", function(19, &[MOST, 1, 1]), "has none", 14),
+    ];
+    let mut rows = left_to_model(alone, Left::Charge);
+    rows.push(row("G35", opening([101, 101], 10_000), "has none", 3));
+    rows
 }
 
 /// The rows of part G, with the reason why they are there.

@@ -67,6 +67,9 @@ fn remarks(before: &State, call: &Call, run: &Run) -> String {
     if swap && model::calls::rate_limits(&before.pool.rates).is_err() {
         remarks.push("rate limits are not in the Rust".into());
     }
+    if before.pool.bears_charges() {
+        remarks.push("its tokens bear no charges".into());
+    }
     if run.number != 0 {
         remarks.push(booked(&run.booked));
     } else if matches!(call, Call::Settlement { .. }) {

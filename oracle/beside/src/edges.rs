@@ -1,4 +1,4 @@
-//! Document 01's worked example and its edges, with document 02 (a) and (b), answered by both sides.
+//! Document 01's worked example and its edges, with document 02 (a), (b) and (c), answered by both sides.
 //! Openings are added by document 01, so there the original has no answer.
 
 use crate::left::LeftCounts;
@@ -16,6 +16,8 @@ struct Edge {
 
 const RATES: [u64; 5] = [2500, 120_000, 40_000, 0, 0];
 const CREATOR_RATES: [u64; 5] = [2500, 120_000, 40_000, 1000, 0];
+/// Points and maximum of either token.
+const CHARGES: [[u64; 2]; 2] = [[100, 50], [25, u64::MAX]];
 const WORKED_OUTPUT: [&str; 3] = [
     " 0                   0                   0                   0                   0                   0",
     " 0                   0                   0             1000000             4000000             2000000",
@@ -38,18 +40,40 @@ pub fn cases() -> Vec<Case> {
 }
 
 fn edges() -> Vec<Edge> {
-    let named =
-        [worked_day(), calls(), creator_fees(), free_day(), closed_day(), openings(), rate_limits(), ring()];
+    let named = [
+        worked_day(),
+        calls(),
+        creator_fees(),
+        free_day(),
+        closed_day(),
+        charged_swaps(),
+        charged_liquidity(),
+        charges(),
+        openings(),
+        rate_limits(),
+        ring(),
+    ];
     named.into_iter().flatten().collect()
 }
 
 fn opening(amounts: [u64; 2], model: u64, enabled: u64, rates: [u64; 5]) -> Case {
-    Case { kind: 1, columns: [&amounts[..], &[model, enabled, 0], &rates].concat() }
+    Case { kind: 1, columns: [&amounts[..], &[model, enabled, 0], &rates, &[0; 4]].concat() }
+}
+
+/// The worked opening with these points and maximums.
+fn charged_opening(charges: [[u64; 2]; 2]) -> Case {
+    let mut case = opening([1_000_000, 4_000_000], 0, 0, RATES);
+    case.columns[10..].copy_from_slice(charges.as_flattened());
+    case
 }
 
 fn opened(model: u64, enabled: u64, rates: [u64; 5]) -> State {
-    let case = opening([1_000_000, 4_000_000], model, enabled, rates);
-    model::run(&case.state(), &case.call().expect("an opening is a call")).state
+    after(&opening([1_000_000, 4_000_000], model, enabled, rates))
+}
+
+/// The state after an opening.
+fn after(opening: &Case) -> State {
+    model::run(&opening.state(), &opening.call().expect("an opening is a call")).state
 }
 
 fn edge(says: &'static str, case: Case, number: u64, columns: &[(&'static str, u64)]) -> Edge {
@@ -167,6 +191,57 @@ fn closed_day() -> Vec<Edge> {
         edge("bit 0 set, deposit LP 0 is 1", closed(0, 4, &[0, 100, 100]), 1, &[]),
         edge("bit 1 set, withdrawal of 0 is 1", closed(1, 5, &[0, 2_000_000, 0, 0]), 1, &[]),
         edge("bit 1 set, withdrawal of 3 of 2 LP is 1", closed(1, 5, &[3, 2, 0, 0]), 1, &[]),
+    ]
+}
+
+/// What is sent, what reaches and leaves the vaults, and what is received.
+fn charged_swaps() -> Vec<Edge> {
+    let pool = after(&charged_opening(CHARGES));
+    let call = |kind, arguments: &[u64]| Case::of_call(&pool, kind, arguments);
+    let swapped = [
+        ("in 0", 9950),
+        ("out 1", 39_309),
+        ("charge 0", 50),
+        ("charge 1", 99),
+        ("vault 0", 1_009_950),
+        ("vault 1", 3_960_691),
+    ];
+    vec![
+        edge("charged, 10,000 in gives 39,210", call(2, &[0, 10_000, 39_210, 100]), 0, &swapped),
+        edge("charged, 10,000 in for at least 39,211 is 2", call(2, &[0, 10_000, 39_211, 100]), 2, &[]),
+        edge("charged, 39,210 cost 10,000", call(3, &[0, 39_210, 10_000, 100]), 0, &swapped),
+        edge("charged, 39,210 for at most 9,999 is 2", call(3, &[0, 39_210, 9999, 100]), 2, &[]),
+        edge("charged, input 1 is 10", call(2, &[0, 1, 0, 100]), 10, &[]),
+        edge("charged, direction 2 with input 1 is 5", call(2, &[2, 1, 0, 100]), 5, &[]),
+        edge("charged, direction 2 with input 0 is 10", call(2, &[2, 0, 0, 100]), 10, &[]),
+    ]
+}
+
+fn charged_liquidity() -> Vec<Edge> {
+    let pool = after(&charged_opening(CHARGES));
+    let call = |kind, arguments: &[u64]| Case::of_call(&pool, kind, arguments);
+    let deposited = [("in 0", 5000), ("in 1", 20_000), ("charge 0", 50), ("charge 1", 51)];
+    let withdrawn = [("out 0", 5000), ("out 1", 20_000), ("charge 0", 50), ("charge 1", 50)];
+    vec![
+        edge("charged, 10,000 LP for 5,050 and 20,051", call(4, &[10_000, 5050, 20_051]), 0, &deposited),
+        edge("10,000 LP give 4,950 and 19,950", call(5, &[10_000, 10_000, 4950, 19_950]), 0, &withdrawn),
+    ]
+}
+
+/// Openings with charges, and the charge on the least that is sent so that 10 arrive.
+fn charges() -> Vec<Edge> {
+    let most = u64::MAX;
+    let opened = [("in 0", 1_000_000), ("in 1", 4_000_000), ("charge 0", 0), ("charge 1", 0)];
+    let on_least = |points, maximum| Case { kind: 19, columns: vec![10, points, maximum] };
+    let at_9999 = charged_opening([[9999, most], [9999, 5]]);
+    vec![
+        edge("opening with charges bears none", charged_opening(CHARGES), 0, &opened),
+        edge("opening at 9,999 points is accepted", at_9999, 0, &opened),
+        edge("opening at 10,000 points of token 0 is 3", charged_opening([[10_000, 0], [0, 0]]), 3, &[]),
+        edge("opening at 10,000 points of token 1 is 3", charged_opening([[0, 0], [10_000, 0]]), 3, &[]),
+        edge("of 100,000 at 9,999 points 10 arrive", on_least(9999, most), 0, &[("result", 99_990)]),
+        edge("of 11 at 1 point 10 arrive", on_least(1, most), 0, &[("result", 1)]),
+        edge("of 15 at 9,999 points, maximum 5, 10 arrive", on_least(9999, 5), 0, &[("result", 5)]),
     ]
 }
 

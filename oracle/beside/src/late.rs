@@ -7,6 +7,7 @@ use runner::{Change, Run};
 
 struct Late {
     name: &'static str,
+    /// Amounts, terms and rates.
     opening: [u64; 10],
     /// Kind and arguments of each call; the last is refused late.
     calls: &'static [&'static [u64]],
@@ -100,13 +101,18 @@ pub fn cases() -> Vec<Case> {
 type Calls = Vec<Vec<u64>>;
 
 impl Late {
+    /// With points and maximums of 0.
+    fn opening_words(&self) -> Vec<u64> {
+        [&self.opening[..], &[0; 4]].concat()
+    }
+
     fn calls(&self) -> Calls {
         self.calls.iter().map(|call| call.to_vec()).collect()
     }
 
     fn cases(&self) -> Vec<Case> {
         let calls = self.calls();
-        let mut cases = vec![Case { kind: 1, columns: self.opening.to_vec() }];
+        let mut cases = vec![Case { kind: 1, columns: self.opening_words() }];
         for count in 1..=calls.len() {
             let (state, last) = self.before_last(&calls[..count]);
             cases.push(Case::of_call(&state, last[0], &last[1..]));
@@ -117,7 +123,7 @@ impl Late {
     /// The state before the last call, and that call.
     fn before_last(&self, calls: &[Vec<u64>]) -> (State, Vec<u64>) {
         let (last, earlier) = calls.split_last().expect("a list holds a call");
-        let opening = Call::from_words(1, &self.opening).expect("an opening takes ten words");
+        let opening = Call::from_words(1, &self.opening_words()).expect("an opening takes fourteen words");
         let mut after = model::run(&model::empty(), &opening);
         for call in earlier {
             assert!(after.number == 0, "{}: every call but the last is accepted", self.name);

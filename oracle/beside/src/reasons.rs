@@ -1,6 +1,6 @@
 //! Whether a case shows the reason of a difference, reckoned from its columns alone.
 
-use record::{Answer, Case};
+use record::{Answer, Case, RECEIPT_LENGTH};
 
 const MILLION: u128 = 1_000_000;
 
@@ -29,7 +29,7 @@ pub fn rate_sum_past_u64(case: &Case) -> bool {
 
 /// Where a settlement's answer holds what is paid out and the vaults.
 const PAID_OUT: [usize; 2] = [5, 6];
-const VAULTS: [usize; 2] = [15, 16];
+const VAULTS: [usize; 2] = [RECEIPT_LENGTH, RECEIPT_LENGTH + 1];
 
 /// The Rust owes the creators more than a vault holds.
 pub fn vault_short(original: &Answer) -> bool {

@@ -7,7 +7,7 @@ use crate::random::Random;
 use crate::shrink::shrunk;
 use crate::verdict::{verdict, Side, Verdict};
 use crate::{bounds, differences, edges, late};
-use record::{entry_at, Answer, Case, RING_ENTRIES};
+use record::{entry_at, Answer, Case, POOL_LENGTH, RECEIPT_LENGTH, RING_ENTRIES};
 use std::collections::{BTreeMap, HashSet};
 use std::fs::File;
 use std::io::{self, BufWriter, Write};
@@ -120,8 +120,8 @@ fn is_replayed(kind: u64, number: u64) -> bool {
     }
 }
 
-/// Calls but an opening have four arguments, pool and entry; fees and the curve three arguments; nets
-/// and prices a whole pool.
+/// Calls but an opening have four arguments, pool and entry; fees, charges and the curve three
+/// arguments; nets and prices a whole pool.
 fn row(case: &Case, document: &Answer, side: u64) -> Row {
     let mut given = case.columns.clone();
     let mut answer = vec![document.number];
@@ -136,11 +136,12 @@ fn row(case: &Case, document: &Answer, side: u64) -> Row {
             given.extend(state.pool.words());
             given.extend(entry);
             // A call that is not lent the ring leaves its entry.
-            answer.truncate(37);
-            answer.extend(if case.kind < 4 { &document.values[36..] } else { &entry });
+            let pool_end = RECEIPT_LENGTH + POOL_LENGTH;
+            answer.truncate(1 + pool_end);
+            answer.extend(if case.kind < 4 { &document.values[pool_end..] } else { &entry });
         }
         10..=21 => given.resize(3, 0),
-        31 | 32 => given.resize(21, 0),
+        31 | 32 => given.resize(POOL_LENGTH, 0),
         _ => {}
     }
     Row { kind: case.kind, side, given, answer }
@@ -169,7 +170,7 @@ impl Row {
     /// The index that the answer gives, past which there is no entry to compare.
     fn ring_index(&self) -> u64 {
         match self.kind {
-            2..=7 => self.answer[35],
+            2..=7 => self.answer[1 + RECEIPT_LENGTH + 19],
             36 => self.answer[2],
             _ => 0,
         }

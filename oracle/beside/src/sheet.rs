@@ -51,7 +51,8 @@ impl Sheet {
         let Rates { trade, protocol, fund, creator, share } = self.rates;
         let mut words = numbers[..USED[kind as usize]].to_vec();
         match kind {
-            1 => words.extend([trade, protocol, fund, creator, share]),
+            // The sheet's tokens are not charged.
+            1 => words.extend([trade, protocol, fund, creator, share, 0, 0, 0, 0]),
             6 => words.push(self.state.pool.rates.share),
             _ => {}
         }

@@ -1,5 +1,5 @@
 //! Each function alone, on u64 amounts and rates: none answers 4; a result past 2^64 - 1
-//! answers 8 for a fee and 11 for the curve.
+//! answers 8 for a fee and 11 for the curve; where no u64 can be sent that leaves an amount, 14.
 
 use crate::calls;
 use crate::curve::{input_for, output_for, tokens_for};
@@ -7,7 +7,7 @@ use crate::fees::{calculate_pre_fee_amount, fee_rounded_up, part_rounded_down, s
 use crate::refusal::*;
 use crate::ring;
 use crate::whole::{divided_up, from_halves, whole, Whole, ZERO};
-use record::{entry_at, filled_ring, Answer, Case, Pool, RingHead};
+use record::{entry_at, filled_ring, Answer, Case, Charge, Pool, RingHead};
 
 type Values = Result<Vec<u64>, u64>;
 
@@ -27,6 +27,7 @@ pub fn answer(case: &Case) -> Answer {
 fn values(kind: u64, words: &[u64]) -> Values {
     match kind {
         10..=17 => fee(kind, words),
+        18 | 19 => charge(kind, words),
         20..=23 => curve(kind, words),
         30 => ring_update(words, [from_halves(words[9], words[10]), from_halves(words[11], words[12])]),
         31 => calls::nets(&vaults(words)).map(Vec::from),
@@ -68,6 +69,16 @@ fn fee(kind: u64, words: &[u64]) -> Values {
         }
     };
     Ok(vec![word(result.ok_or(ZERO_TRADING_TOKENS)?, MATH_OVERFLOW)?])
+}
+
+/// The charge on an amount that is sent, or on the least of which an amount arrives.
+fn charge(kind: u64, words: &[u64]) -> Values {
+    let [amount, points, maximum] = *words else {
+        unreachable!("the form has three words");
+    };
+    let charge = Charge { points, maximum };
+    let sent = if kind == 18 { amount } else { calls::sent(amount, charge)? };
+    Ok(vec![calls::charged(sent, charge)])
 }
 
 fn curve(kind: u64, words: &[u64]) -> Values {

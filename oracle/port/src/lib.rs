@@ -1,7 +1,10 @@
 //! The port: libcp_swap.a over memory that a state is laid out in.
 
 use cp_swap::plain;
-use record::{Call, Opening, Rates, Receipt, State};
+use record::{Call, Receipt, State, RECEIPT_LENGTH};
+
+/// The number stands before the receipt's own.
+const NUMBER_AND_RECEIPT: usize = 1 + RECEIPT_LENGTH;
 
 /// A pool, its ring and a receipt, as the library has them.
 #[derive(Clone, PartialEq, Eq)]
@@ -15,7 +18,7 @@ impl Port {
     /// The receipt is filled with this number, so that every write to it shows.
     pub fn of(state: &State, fill: u64) -> Port {
         let ring = state.ring.as_flattened().try_into().expect("a ring has 500 numbers");
-        Port { pool: state.pool.words(), ring, receipt: [fill; 16] }
+        Port { pool: state.pool.words(), ring, receipt: [fill; NUMBER_AND_RECEIPT] }
     }
 
     /// What the memory holds after an accepted call that gives this.
@@ -27,7 +30,7 @@ impl Port {
 
     /// What the memory holds after a call that is refused with this number.
     pub fn refused(&self, number: u64) -> Port {
-        let mut receipt = [0; 16];
+        let mut receipt = [0; NUMBER_AND_RECEIPT];
         receipt[0] = number;
         Port { receipt, ..self.clone() }
     }
@@ -36,7 +39,7 @@ impl Port {
     pub fn call(&mut self, call: &Call) -> u64 {
         let Port { pool, ring, receipt } = self;
         match *call {
-            Call::Opening(opening) => open(self, &opening),
+            Call::Opening(opening) => plain::open(pool, ring, receipt, &opening.words()),
             Call::SwapByInput(s) => {
                 plain::base_input(pool, ring, receipt, s.direction, s.amount, s.limit, s.clock)
             }
@@ -57,11 +60,4 @@ impl Port {
         let mut nets = [fill; 2];
         (plain::nets(&self.pool, &mut nets), nets)
     }
-}
-
-fn open(port: &mut Port, opening: &Opening) -> u64 {
-    let Opening { amounts: [amount_0, amount_1], fee_model, enabled, open_time, rates } = *opening;
-    let Rates { trade, protocol, fund, creator, share } = rates;
-    let words = [amount_0, amount_1, fee_model, enabled, open_time, trade, protocol, fund, creator, share];
-    plain::open(&mut port.pool, &mut port.ring, &mut port.receipt, &words)
 }

@@ -1,7 +1,8 @@
 //! The seven calls and their receipt.
 
-use crate::pool::Rates;
+use crate::pool::{Charge, Rates};
 
+/// The amounts are those that arrived.
 #[derive(Clone, Copy, Debug, PartialEq, Eq)]
 pub struct Opening {
     pub amounts: [u64; 2],
@@ -9,9 +10,11 @@ pub struct Opening {
     pub enabled: u64,
     pub open_time: u64,
     pub rates: Rates,
+    pub charges: [Charge; 2],
 }
 
-/// The limit is the least output of a swap by input, the greatest input of one by output.
+/// By input the amount is what is sent and the limit the least that is received; by output the amount
+/// is what is received and the limit the most that is sent.
 #[derive(Clone, Copy, Debug, PartialEq, Eq)]
 pub struct Swap {
     pub direction: u64,
@@ -31,14 +34,41 @@ pub enum Call {
     Status { bit: u64, flag: u64 },
 }
 
+impl Opening {
+    /// None where there are not fourteen.
+    fn from_words(words: &[u64]) -> Option<Opening> {
+        let [a0, a1, fee_model, enabled, open_time, ref rest @ ..] = *words else {
+            return None;
+        };
+        let [trade, protocol, fund, creator, share, ref rest @ ..] = *rest else {
+            return None;
+        };
+        Some(Opening {
+            amounts: [a0, a1],
+            fee_model,
+            enabled,
+            open_time,
+            rates: Rates { trade, protocol, fund, creator, share },
+            charges: Charge::from_words(rest.try_into().ok()?),
+        })
+    }
+
+    pub fn words(&self) -> [u64; 14] {
+        let Opening { amounts: [a0, a1], fee_model, enabled, open_time, rates, charges } = *self;
+        let Rates { trade, protocol, fund, creator, share } = rates;
+        let [points_0, maximum_0, points_1, maximum_1] = Charge::words(charges);
+        [
+            a0, a1, fee_model, enabled, open_time, trade, protocol, fund, creator, share, points_0,
+            maximum_0, points_1, maximum_1,
+        ]
+    }
+}
+
 impl Call {
     /// None where the kind is no call or has another count of arguments.
     pub fn from_words(kind: u64, words: &[u64]) -> Option<Call> {
         Some(match (kind, words) {
-            (1, &[a0, a1, fee_model, enabled, open_time, trade, protocol, fund, creator, share]) => {
-                let rates = Rates { trade, protocol, fund, creator, share };
-                Call::Opening(Opening { amounts: [a0, a1], fee_model, enabled, open_time, rates })
-            }
+            (1, words) => Call::Opening(Opening::from_words(words)?),
             (2, &[direction, amount, limit, clock]) => {
                 Call::SwapByInput(Swap { direction, amount, limit, clock })
             }
@@ -67,7 +97,8 @@ impl Call {
     }
 }
 
-/// What an accepted call says of itself; 0 where a field has no meaning.
+/// What an accepted call says of itself; 0 where a field has no meaning. The amounts are what reached
+/// or left the vaults: what was sent is paid in plus the charge, what is received is paid out less it.
 #[derive(Clone, Copy, Debug, Default, PartialEq, Eq)]
 pub struct Receipt {
     pub kind: u64,
@@ -82,9 +113,13 @@ pub struct Receipt {
     pub creator_fee: u64,
     pub creator_fee_token: u64,
     pub shared: [u64; 2],
+    /// On the transfer of either token.
+    pub charges: [u64; 2],
 }
 
-pub const RECEIPT_COLUMNS: [&str; 15] = [
+pub const RECEIPT_LENGTH: usize = 17;
+
+pub const RECEIPT_COLUMNS: [&str; RECEIPT_LENGTH] = [
     "kind",
     "direction",
     "clock",
@@ -100,10 +135,22 @@ pub const RECEIPT_COLUMNS: [&str; 15] = [
     "creator fee's token",
     "shared 0",
     "shared 1",
+    "charge 0",
+    "charge 1",
 ];
 
 impl Receipt {
-    pub fn words(&self) -> [u64; 15] {
+    /// What was sent of a token that was paid in.
+    pub fn sent(&self, token: usize) -> u64 {
+        self.paid_in[token] + self.charges[token]
+    }
+
+    /// What is received of a token that was paid out.
+    pub fn received(&self, token: usize) -> u64 {
+        self.paid_out[token] - self.charges[token]
+    }
+
+    pub fn words(&self) -> [u64; RECEIPT_LENGTH] {
         [
             self.kind,
             self.direction,
@@ -120,6 +167,8 @@ impl Receipt {
             self.creator_fee_token,
             self.shared[0],
             self.shared[1],
+            self.charges[0],
+            self.charges[1],
         ]
     }
 }

@@ -1,9 +1,14 @@
 //! One call, or one function alone, with all that it takes: a line of decimal numbers.
 
-use crate::call::{Call, Receipt, RECEIPT_COLUMNS};
+use crate::call::{Call, Receipt, RECEIPT_COLUMNS, RECEIPT_LENGTH};
 use crate::form::{form, Form, On};
-use crate::pool::{Pool, State, POOL_COLUMNS};
-use crate::ring::{entry_at, filled_ring, ENTRY_COLUMNS, RING_ENTRIES};
+use crate::pool::{Pool, State, POOL_COLUMNS, POOL_LENGTH};
+use crate::ring::{entry_at, filled_ring, ENTRY_COLUMNS, ENTRY_LENGTH, RING_ENTRIES};
+use std::ops::Range;
+
+/// Where a swap's case has the ring's newest entry: behind the pool.
+const ENTRY: Range<usize> = POOL_LENGTH..POOL_LENGTH + ENTRY_LENGTH;
+const RING_INDEX: usize = 19;
 
 /// The columns are what the form names: pool, entry, arguments.
 #[derive(Clone, Debug, PartialEq, Eq)]
@@ -45,18 +50,27 @@ impl Case {
     pub fn pool(&self) -> Pool {
         match self.form().on {
             On::Nothing => Pool::default(),
-            _ => Pool::from_words(&self.columns[..21]).expect("a case holds a whole pool"),
+            _ => Pool::from_words(&self.columns[..POOL_LENGTH]).expect("a case holds a whole pool"),
         }
     }
 
     /// The pool with its ring, of which a case has at most the entry at the index.
     pub fn state(&self) -> State {
         let entry = match self.form().on {
-            On::PoolAndEntry => self.columns[21..26].try_into().expect("an entry has five words"),
+            On::PoolAndEntry => self.columns[ENTRY].try_into().expect("an entry has five words"),
             _ => [0; 5],
         };
         let pool = self.pool();
         State { pool, ring: filled_ring(pool.head.index, entry) }
+    }
+
+    /// Whether its pool has points above 0 of either token, or what it opens or charges has.
+    pub fn bears_charges(&self) -> bool {
+        match self.kind {
+            1 => self.columns[10] != 0 || self.columns[12] != 0,
+            18 | 19 => self.columns[1] != 0,
+            _ => self.pool().bears_charges(),
+        }
     }
 
     pub fn call(&self) -> Option<Call> {
@@ -85,7 +99,7 @@ impl Case {
         };
         let before = form.columns_before();
         self.columns.len() == before + form.arguments.len()
-            && (before == 0 || Pool::from_words(&self.columns[..21]).is_some())
+            && (before == 0 || Pool::from_words(&self.columns[..POOL_LENGTH]).is_some())
             && !(self.kind == 22 && self.columns[4] > 1)
             && !(matches!(self.kind, 30 | 36) && self.columns[0] > 1)
             && self.entry_is_in_ring()
@@ -109,7 +123,7 @@ impl Case {
 
     fn entry_is_in_ring(&self) -> bool {
         let (index, entry) = match self.kind {
-            2 | 3 => (self.columns[19], &self.columns[21..26]),
+            2 | 3 => (self.columns[RING_INDEX], &self.columns[ENTRY]),
             30 | 36 => (self.columns[1], &self.columns[3..8]),
             _ => return true,
         };
@@ -130,7 +144,7 @@ impl Answer {
 
 /// A call's answer in the columns of its kind.
 pub fn call_answer(kind: u64, number: u64, receipt: &Receipt, state: &State) -> Answer {
-    let mut values = Vec::with_capacity(41);
+    let mut values = Vec::with_capacity(RECEIPT_LENGTH + POOL_LENGTH + ENTRY_LENGTH);
     values.extend(receipt.words());
     values.extend(state.pool.words());
     if form(kind).is_some_and(|form| form.on == On::PoolAndEntry) {

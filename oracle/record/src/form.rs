@@ -1,5 +1,8 @@
 //! The kinds of case: what each takes and what it gives. Kinds 1 to 7 are the calls.
 
+use crate::pool::POOL_LENGTH;
+use crate::ring::ENTRY_LENGTH;
+
 /// What a case acts on, before its arguments.
 #[derive(Clone, Copy, Debug, PartialEq, Eq)]
 pub enum On {
@@ -33,6 +36,7 @@ const fn function(
 
 const SWAP: &[&str] = &["direction", "amount", "limit", "clock"];
 const RATED: &[&str] = &["amount", "rate"];
+const CHARGED: &[&str] = &["amount", "points", "maximum"];
 const ONE: &[&str] = &["result"];
 const CURVE: &[&str] = &["amount", "net in", "net out"];
 const VAULTS: &[&str] =
@@ -64,6 +68,10 @@ pub const FORMS: &[Form] = &[
             "fund rate",
             "creator rate",
             "share rate",
+            "points 0",
+            "maximum 0",
+            "points 1",
+            "maximum 1",
         ],
     ),
     call(2, "swap_base_input", On::PoolAndEntry, SWAP),
@@ -80,6 +88,8 @@ pub const FORMS: &[Form] = &[
     function(15, "split_creator_fee", &["total fee", "trade rate", "creator rate"], ONE),
     function(16, "calculate_pre_fee_amount", RATED, ONE),
     function(17, "split_creator_fee_shared_amount", RATED, &["creator's part", "shared part"]),
+    function(18, "get_transfer_fee", CHARGED, ONE),
+    function(19, "get_transfer_inverse_fee", CHARGED, ONE),
     function(20, "swap_base_input_without_fees", CURVE, ONE),
     function(21, "swap_base_output_without_fees", CURVE, ONE),
     function(
@@ -169,8 +179,8 @@ impl Form {
     pub fn columns_before(&self) -> usize {
         match self.on {
             On::Nothing => 0,
-            On::Pool => 21,
-            On::PoolAndEntry => 26,
+            On::Pool => POOL_LENGTH,
+            On::PoolAndEntry => POOL_LENGTH + ENTRY_LENGTH,
         }
     }
 }

@@ -13,6 +13,9 @@ pub enum Left {
     /// 02 (b): on a closed pool a swap by output of 0 within the rate limits, a deposit of LP 0, a
     /// withdrawal of LP 0 or above the owner's.
     AmountOnClosedPool,
+    /// 02 (c): a call on a pool with points above 0 of either token, whatever the maximums, or a
+    /// function of the charge alone at such points.
+    Charge,
 }
 
 impl fmt::Display for Left {
@@ -20,6 +23,7 @@ impl fmt::Display for Left {
         out.write_str(match self {
             Left::RateSumOfZero => "rate sum 0, 02 (a)",
             Left::AmountOnClosedPool => "refused amount on a closed pool, 02 (b)",
+            Left::Charge => "points above 0, 02 (c)",
         })
     }
 }
@@ -28,7 +32,7 @@ impl Left {
     /// The number that document 02 gives to all these cases, where it gives one.
     pub fn number(self) -> Option<u64> {
         match self {
-            Left::RateSumOfZero => None,
+            Left::RateSumOfZero | Left::Charge => None,
             Left::AmountOnClosedPool => Some(1),
         }
     }
@@ -44,6 +48,8 @@ impl Case {
         let reasons = [
             (Left::RateSumOfZero, self.rate_sum_is_0()),
             (Left::AmountOnClosedPool, self.is_refused_amount_on_closed_pool()),
+            // An opening has no original beside it, whatever it charges.
+            (Left::Charge, self.kind != 1 && self.bears_charges()),
         ];
         reasons.into_iter().find(|(_, holds)| *holds).map(|(left, _)| left)
     }

@@ -8,9 +8,11 @@ mod left;
 mod pool;
 mod ring;
 
-pub use call::{Call, Opening, Receipt, Swap, RECEIPT_COLUMNS};
+pub use call::{Call, Opening, Receipt, Swap, RECEIPT_COLUMNS, RECEIPT_LENGTH};
 pub use case::{call_answer, Answer, Case};
 pub use form::{form, Form, On, FORMS};
 pub use left::Left;
-pub use pool::{Pool, Rates, RingHead, State, POOL_COLUMNS};
-pub use ring::{entry_at, filled_ring, only_newest_written, Entry, Ring, ENTRY_COLUMNS, RING_ENTRIES};
+pub use pool::{Charge, Pool, Rates, RingHead, State, POOL_COLUMNS, POOL_LENGTH};
+pub use ring::{
+    entry_at, filled_ring, only_newest_written, Entry, Ring, ENTRY_COLUMNS, ENTRY_LENGTH, RING_ENTRIES,
+};

@@ -19,6 +19,24 @@ impl Rates {
     }
 }
 
+/// What a token's transfers are charged: points per 10,000, up to a maximum.
+#[derive(Clone, Copy, Debug, Default, PartialEq, Eq)]
+pub struct Charge {
+    pub points: u64,
+    pub maximum: u64,
+}
+
+impl Charge {
+    /// Both tokens' charges in the order of every line.
+    pub fn words([charge_0, charge_1]: [Charge; 2]) -> [u64; 4] {
+        [charge_0.points, charge_0.maximum, charge_1.points, charge_1.maximum]
+    }
+
+    pub fn from_words([points_0, maximum_0, points_1, maximum_1]: [u64; 4]) -> [Charge; 2] {
+        [Charge { points: points_0, maximum: maximum_0 }, Charge { points: points_1, maximum: maximum_1 }]
+    }
+}
+
 /// The price ring without its entries.
 #[derive(Clone, Copy, Debug, Default, PartialEq, Eq)]
 pub struct RingHead {
@@ -40,6 +58,7 @@ pub struct Pool {
     pub enabled: bool,
     pub rates: Rates,
     pub head: RingHead,
+    pub charges: [Charge; 2],
 }
 
 #[derive(Clone, Debug, PartialEq, Eq)]
@@ -48,7 +67,9 @@ pub struct State {
     pub ring: Ring,
 }
 
-pub const POOL_COLUMNS: [&str; 21] = [
+pub const POOL_LENGTH: usize = 25;
+
+pub const POOL_COLUMNS: [&str; POOL_LENGTH] = [
     "vault 0",
     "vault 1",
     "protocol 0",
@@ -70,10 +91,15 @@ pub const POOL_COLUMNS: [&str; 21] = [
     "ring used",
     "ring index",
     "ring mark",
+    "points 0",
+    "maximum 0",
+    "points 1",
+    "maximum 1",
 ];
 
 impl Pool {
-    pub fn words(&self) -> [u64; 21] {
+    pub fn words(&self) -> [u64; POOL_LENGTH] {
+        let [points_0, maximum_0, points_1, maximum_1] = Charge::words(self.charges);
         let Pool { vaults, protocol, fund, creator, rates, head, .. } = self;
         [
             vaults[0],
@@ -97,7 +123,16 @@ impl Pool {
             head.used.into(),
             head.index,
             head.mark,
+            points_0,
+            maximum_0,
+            points_1,
+            maximum_1,
         ]
+    }
+
+    /// Whether transfers of either token have points; a maximum alone charges nothing.
+    pub fn bears_charges(&self) -> bool {
+        self.charges.iter().any(|charge| charge.points != 0)
     }
 
     /// Whether the pool is closed to what this bit stands for: 0 deposits, 1 withdrawals, 2 swaps.
@@ -113,7 +148,7 @@ impl Pool {
         let [supply, status, open_time, fee_model, enabled, ref rest @ ..] = *rest else {
             return None;
         };
-        let [trade, protocol, fund, creator, share, used, index, mark] = *rest else {
+        let [trade, protocol, fund, creator, share, used, index, mark, ref rest @ ..] = *rest else {
             return None;
         };
         Some(Pool {
@@ -128,6 +163,7 @@ impl Pool {
             enabled: yes_or_no(enabled)?,
             rates: Rates { trade, protocol, fund, creator, share },
             head: RingHead { used: yes_or_no(used)?, index, mark },
+            charges: Charge::from_words(rest.try_into().ok()?),
         })
     }
 }

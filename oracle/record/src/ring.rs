@@ -2,11 +2,14 @@
 
 pub const RING_ENTRIES: usize = 100;
 
+pub const ENTRY_LENGTH: usize = 5;
+
 /// Clock, then the high and low half of either sum.
-pub type Entry = [u64; 5];
+pub type Entry = [u64; ENTRY_LENGTH];
 pub type Ring = [Entry; RING_ENTRIES];
 
-pub const ENTRY_COLUMNS: [&str; 5] = ["entry clock", "sum 0 high", "sum 0 low", "sum 1 high", "sum 1 low"];
+pub const ENTRY_COLUMNS: [&str; ENTRY_LENGTH] =
+    ["entry clock", "sum 0 high", "sum 0 low", "sum 1 high", "sum 1 low"];
 
 /// A ring in which word w holds 10,000 + w, so that every stray write shows, but for the
 /// entry at the index. An index past the ring has no entry.

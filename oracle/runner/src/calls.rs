@@ -156,8 +156,14 @@ fn receipt(before: &State, call: &Call, after: &State, owed: [u64; 2]) -> Receip
     match call {
         Call::Opening(_) | Call::Status { .. } => empty,
         Call::SwapByInput(swap) | Call::SwapByOutput(swap) => swap_receipt(before, swap, after, empty),
-        Call::Deposit { lp, .. } => Receipt { lp: *lp, paid_in: moved_amounts(), ..empty },
-        Call::Withdrawal { lp, .. } => Receipt { lp: *lp, paid_out: moved_amounts(), ..empty },
+        Call::Deposit { lp, .. } => {
+            let (paid_in, charges) = moved_amounts();
+            Receipt { lp: *lp, paid_in, charges, ..empty }
+        }
+        Call::Withdrawal { lp, .. } => {
+            let (paid_out, charges) = moved_amounts();
+            Receipt { lp: *lp, paid_out, charges, ..empty }
+        }
         Call::Settlement { .. } => {
             let shared = [0, 1].map(|t| after.pool.protocol[t] - before.pool.protocol[t]);
             Receipt { paid_out: owed, shared, ..empty }
@@ -182,12 +188,16 @@ fn swap_receipt(before: &State, swap: &Swap, after: &State, empty: Receipt) -> R
     };
     receipt.paid_in[token_in] = event.input_amount;
     receipt.paid_out[token_out] = event.output_amount;
+    receipt.charges[token_in] = event.input_transfer_fee;
+    receipt.charges[token_out] = event.output_transfer_fee;
     receipt
 }
 
-fn moved_amounts() -> [u64; 2] {
+/// What reached or left the vaults, and the charges.
+fn moved_amounts() -> ([u64; 2], [u64; 2]) {
     let event: LpChangeEvent = events::take().expect("an accepted change of LP emits its event");
-    [event.token_0_amount, event.token_1_amount]
+    let charges = [event.token_0_transfer_fee, event.token_1_transfer_fee];
+    ([event.token_0_amount, event.token_1_amount], charges)
 }
 
 fn changes(before: &State, after: &State) -> Vec<Change> {

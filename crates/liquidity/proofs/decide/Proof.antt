@@ -18,7 +18,7 @@ returns : tie.Need-returns
 returns c =
     let f = c .before .before in
     let a = f .before .args in
-    front-refused (a .is-deposit) (a .status) (a .books) (a .lp .0) (a .owned .0) (a .limit0 .0) (a .limit1 .0) _
+    front-refused (a .is-deposit) (a .charges) (a .status) (a .books) (a .lp .0) (a .owned .0) (a .limit0 .0) (a .limit1 .0) _
     (f .front-number .ensures)
     (c .before .if1 .taken)
     (c .refuse-books .ensures)
@@ -34,7 +34,7 @@ returns-2 c =
     let w = c .before .before .before in
     let f = w .before .before in
     let a = f .before .args in
-    worth-refused (a .is-deposit) (a .status) (a .books) (a .lp .0) (a .owned .0) (a .limit0 .0) (a .limit1 .0) _
+    worth-refused (a .is-deposit) (a .charges) (a .status) (a .books) (a .lp .0) (a .owned .0) (a .limit0 .0) (a .limit1 .0) _
     (f .front-number .ensures)
     (w .before .if1 .left)
     (w .worth-of .ensures)
@@ -50,7 +50,7 @@ returns-3 c =
     let w = e .before .before in
     let f = w .before .before in
     let a = f .before .args in
-    past-worth (a .is-deposit) (a .status) (a .books) (a .lp .0) (a .owned .0) (a .limit0 .0) (a .limit1 .0) _
+    past-worth (a .is-deposit) (a .charges) (a .status) (a .books) (a .lp .0) (a .owned .0) (a .limit0 .0) (a .limit1 .0) _
     (f .front-number .ensures)
     (w .before .if1 .left)
     (w .worth-of .ensures)
@@ -76,7 +76,7 @@ returns-4 c =
     let w = e .before .before in
     let f = w .before .before in
     let a = f .before .args in
-    past-worth (a .is-deposit) (a .status) (a .books) (a .lp .0) (a .owned .0) (a .limit0 .0) (a .limit1 .0) _
+    past-worth (a .is-deposit) (a .charges) (a .status) (a .books) (a .lp .0) (a .owned .0) (a .limit0 .0) (a .limit1 .0) _
     (f .front-number .ensures)
     (w .before .if1 .left)
     (w .worth-of .ensures)

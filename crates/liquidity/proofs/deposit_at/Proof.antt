@@ -1,100 +1,51 @@
 -- `liquidity::deposit_at` meets its contract.
 -- Assumes nothing.
-use mathlib.Core.Path.{_≡_}
-use Prim.Native.Nat.{_+_, _≤_}
-use native.Mathlib.Omega.{arith}
-use Rattle.refusal.specs.Tests.{U64, first}
-use Rattle.liquidity.specs.Stages.{roomTests}
-use Rattle.liquidity.proofs.Bookings.{deposit-above, deposit-no-room, deposit-rooms, deposit-booked}
+use Rattle.liquidity.proofs.Bookings.{deposit-refused, deposit-decided}
 use borrow.Author.Needs.{needs}
 use Rattle.liquidity.proofs.deposit_at.Statement.{statement}
 use Rattle.liquidity.proofs.deposit_at.Tie as tie
 
+transfer-both-requires : tie.Need-transfer-both-requires
+transfer-both-requires c κs = search needs
+
 first2-requires : tie.Need-first2-requires
 first2-requires c κs = search needs
+
+either-requires : tie.Need-either-requires
+either-requires c κs = search needs
 
 refuse-books-requires : tie.Need-refuse-books-requires
 refuse-books-requires c κs = search needs
 
 returns : tie.Need-returns
 returns c =
-    let f = c .before .before in
-    let a = f .before .before .before .before .before .args in
-    deposit-above (a .amount0 .0) (a .amount1 .0) (a .books) (a .lp .0) (a .maximum0 .0) (a .maximum1 .0) _ (f .first2 .ensures) (c .before .if1 .taken) (c .refuse-books .ensures)
+    let e = c .before .before in
+    let t = e .before .before .before .before .before .before in
+    let a = t .before .args in
+    deposit-refused (a .amount0 .0) (a .amount1 .0) (a .charges) (a .books) (a .lp .0) (a .maximum0 .0) (a .maximum1 .0)
+    (t .transfer-both .result) (t .transfer-both .ensures) _ (e .before .first2 .ensures) _ (e .either .ensures)
+    (c .before .if1 .taken) (c .refuse-books .ensures)
 
-past-sum-requires : tie.Need-past-sum-requires
-past-sum-requires c κs = search needs
-
-past-sum-requires-2 : tie.Need-past-sum-requires-2
-past-sum-requires-2 c κs = search needs
-
-past-sum-requires-3 : tie.Need-past-sum-requires-3
-past-sum-requires-3 c κs = search needs
-
-first3-requires : tie.Need-first3-requires
-first3-requires c κs = search needs
-
--- the second stage's number is that of the first of its tests that fails
-room :
-    (c : tie.After-first3)
-    → let a = c .before .before .before .before .before .before .before .before .before .before .args in
-    c .first3 .result ≡ first (roomTests (a .amount0 .0) (a .amount1 .0) (a .books) (a .lp .0))
-room c = rw (c .before .past-sum3 .ensures, c .before .before .past-sum2 .ensures, c .before .before .before .past-sum .ensures) at (c .first3 .ensures)
-
-refuse-books-requires-2 : tie.Need-refuse-books-requires-2
-refuse-books-requires-2 c κs = search needs
+book-deposit-requires : tie.Need-book-deposit-requires
+book-deposit-requires c κs = search needs
 
 returns-2 : tie.Need-returns-2
 returns-2 c =
-    let r = c .before .before in
-    let e = r .before .before .before .before in
-    let a = e .before .before .before .before .before .before .args in
-    deposit-no-room (a .amount0 .0) (a .amount1 .0) (a .books) (a .lp .0) (a .maximum0 .0) (a .maximum1 .0) _ (e .before .first2 .ensures) (e .if1 .left) _ (room r) (c .before .if2 .taken) (c .refuse-books2 .ensures)
-
-amounts-receipt-requires : tie.Need-amounts-receipt-requires
-amounts-receipt-requires c κs = search needs
-
--- past the tests both vaults and the supply have room
-rooms :
-    (c : tie.Else2)
-    → let a = c .before .before .before .before .before .before .before .before .before .before .before .args in
-    (a .books .vault0 + a .amount0 .0 ≤ U64) × (a .books .vault1 + a .amount1 .0 ≤ U64) × (a .books .supply + a .lp .0 ≤ U64)
-rooms c =
-    let a = c .before .before .before .before .before .before .before .before .before .before .before .args in
-    deposit-rooms (a .amount0 .0) (a .amount1 .0) (a .books) (a .lp .0) _ (room (c .before)) (c .if2 .left)
-
-add-t14 : tie.Need-add-t14
-add-t14 c = omega (arith, rooms (c .before .before .before .before) .0)
-
-add-t15 : tie.Need-add-t15
-add-t15 c = omega (arith, rooms (c .before .before .before .before .before .before) .1)
-
-add-t16 : tie.Need-add-t16
-add-t16 c = omega (arith, rooms (c .before .before .before .before .before .before .before .before) .2)
-
-returns-3 : tie.Need-returns-3
-returns-3 c =
-    let k = c .before .before .before .before .before .before in
-    let t = k .before .before in
-    let e = t .before .before .before .before .before in
-    let a = e .before .before .before .before .before .before .args in
-    deposit-booked (a .amount0 .0) (a .amount1 .0) (a .books) (a .lp .0) (a .maximum0 .0) (a .maximum1 .0) _ (e .before .first2 .ensures) (e .if1 .left) _ (room (t .before)) (t .if2 .left) (k .amounts-receipt .ensures)
+    let e = c .before .before .before in
+    let t = e .before .before .before .before .before .before in
+    let a = t .before .args in
+    deposit-decided (a .amount0 .0) (a .amount1 .0) (a .charges) (a .books) (a .lp .0) (a .maximum0 .0) (a .maximum1 .0)
+    (t .transfer-both .result) (t .transfer-both .ensures) _ (e .before .first2 .ensures) _ (e .either .ensures)
+    (c .before .before .if1 .left) (c .book-deposit .ensures)
 
 pub deposit-at-spec : {M : Type 1} → statement M
 deposit-at-spec =
     tie.close
     (tie.spec
+    transfer-both-requires
     first2-requires
+    either-requires
     refuse-books-requires
     returns
-    past-sum-requires
-    past-sum-requires-2
-    past-sum-requires-3
-    first3-requires
-    refuse-books-requires-2
-    returns-2
-    amounts-receipt-requires
-    add-t14
-    add-t15
-    add-t16
-    returns-3)
+    book-deposit-requires
+    returns-2)

@@ -6,6 +6,8 @@ use Rattle.root.specs.Root.{root}
 use Rattle.refusal.specs.Tests.{first}
 use Rattle.refusal.proofs.Stops.{outcome-stop, outcome-go}
 use Rattle.accounting.specs.declared.Books.{Books}
+use Rattle.charge.specs.declared.Charged.{Charged}
+use Rattle.charge.specs.Charge.{nothingCharged}
 use Rattle.receipt.specs.declared.Receipt.{Receipt}
 use Rattle.receipt.specs.Kind.{Opening as kind}
 use Rattle.receipt.specs.Receipt.{amounts}
@@ -38,20 +40,24 @@ returns c = c .refuse-opening .ensures ∙ outcome-stop _ _ _ _ (c .before .befo
 books-with-requires : tie.Need-books-with-requires
 books-with-requires c κs = search needs
 
+nothing-charged-requires : tie.Need-nothing-charged-requires
+nothing-charged-requires c κs = search needs
+
 amounts-receipt-requires : tie.Need-amounts-receipt-requires
 amounts-receipt-requires c κs = search needs
 
 opened :
     (o : Opening) (n : ℕ) → n ≡ first (openingTests o) → n ≡ 0
-    → (s : ℕ) (b : Books) (r : Receipt) → s ≡ supplyOf o → b ≡ booksWith (o .amount0) (o .amount1) s → r ≡ amounts kind (o .amount0) (o .amount1) 0 0 s
+    → (s : ℕ) (b : Books) (x : Charged) (r : Receipt) → s ≡ supplyOf o → b ≡ booksWith (o .amount0) (o .amount1) s → x ≡ nothingCharged → r ≡ amounts kind (o .amount0) (o .amount1) 0 0 s x
     → record { books = b; terms = openedTerms o; receipt = r } ≡ openingAfter o
 unfolding openingAfter openingTests
-opened o n e z s b r f g h = rw (g, h, f) (outcome-go _ _ _ n refl e z)
+opened o n e z s b x r f g d h = rw (g, h, d, f) (outcome-go _ _ _ n refl e z)
 
 returns-2 : tie.Need-returns-2
 returns-2 c =
-    let k = c .before .before .before .before .before in
-    opened (k .before .before .before .args .opening) _ (k .opening-number .ensures) (c .before .before .before .before .if1 .left) _ _ _ (supply (k .before)) (c .before .before .books-with .ensures) (c .before .amounts-receipt .ensures)
+    let b = c .before .before .before in
+    let k = b .before .before .before .before in
+    opened (k .before .before .before .args .opening) _ (k .opening-number .ensures) (b .before .before .before .if1 .left) _ _ _ _ (supply (k .before)) (b .books-with .ensures) (c .before .before .nothing-charged .ensures) (c .before .amounts-receipt .ensures)
 
 pub decide-spec : {M : Type 1} → statement M
 decide-spec =
@@ -63,5 +69,6 @@ decide-spec =
     refuse-opening-requires
     returns
     books-with-requires
+    nothing-charged-requires
     amounts-receipt-requires
     returns-2)

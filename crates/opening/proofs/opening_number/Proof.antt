@@ -10,7 +10,7 @@ use Rattle.refusal.specs.Tests.{Tests, _then_, first}
 use Rattle.refusal.proofs.Stops.{either-then}
 use Rattle.rates.specs.Rates.{rateLimits, rateTests}
 use Rattle.opening.specs.declared.Opening.{Opening}
-use Rattle.opening.specs.Opening.{LeastSupply, supplyOf, openingTests}
+use Rattle.opening.specs.Opening.{LeastSupply, HighestPoints, supplyOf, openingTests}
 use borrow.Author.Needs.{needs}
 use Rattle.opening.proofs.opening_number.Statement.{statement}
 use Rattle.opening.proofs.opening_number.Tie as tie
@@ -21,8 +21,8 @@ first4-requires c κs = search needs
 rate-number-requires : tie.Need-rate-number-requires
 rate-number-requires c κs = search needs
 
-first1-requires : tie.Need-first1-requires
-first1-requires c κs = search needs
+first3-requires : tie.Need-first3-requires
+first3-requires c κs = search needs
 
 either-requires : tie.Need-either-requires
 either-requires c κs = search needs
@@ -39,22 +39,28 @@ front o =
     ∷ (ltb 1 (o .enabled), InvalidInput)
     ∷ []
 
-abbrev least : ℕ → Tests
-least supply = (ltb supply LeastSupply, InitLpAmountTooLess) ∷ []
+-- points above 9,999, 3; supply below 101, 13
+abbrev last : Opening → ℕ → Tests
+last o supply =
+    (ltb HighestPoints (o .charges .token0 .points), InvalidInput)
+    ∷ (ltb HighestPoints (o .charges .token1 .points), InvalidInput)
+    ∷ (ltb supply LeastSupply, InitLpAmountTooLess)
+    ∷ []
 
 joined :
-    (o : Opening) (supply n m k r s : ℕ) → supply ≡ supplyOf o → n ≡ first (front o) → m ≡ first (rateTests (o .rates)) → k ≡ first (least supply)
+    (o : Opening) (supply n m k r s : ℕ) → supply ≡ supplyOf o → n ≡ first (front o) → m ≡ first (rateTests (o .rates)) → k ≡ first (last o supply)
     → r ≡ cond (eqb m 0) k m → s ≡ cond (eqb n 0) r n → s ≡ first (openingTests o)
 unfolding openingTests rateTests rateLimits _then_
 joined o supply n m k r s e f g h i j =
-    either-then (front o) (rateTests (o .rates) then least (supplyOf o)) n r s refl f
-    (either-then (rateTests (o .rates)) (least (supplyOf o)) m k r refl g (rw (sym e) h) i) j
+    either-then (front o) (rateTests (o .rates) then last o (supplyOf o)) n r s refl f
+    (either-then (rateTests (o .rates)) (last o (supplyOf o)) m k r refl g (rw (sym e) h) i) j
 
 returns : tie.Need-returns
 returns c =
     let k = c .before .before .before .before .before in
-    let a = k .before .before .before .before .before .args in
-    joined (a .opening) (a .supply) _ _ _ _ _ (k .before .before .before .before .before .pre) (k .first4 .ensures) (c .before .before .before .rate-number .ensures) (c .before .before .first1 .ensures) (c .before .either .ensures) (c .either2 .ensures)
+    let f = k .before .before in
+    let s = f .before .before .before .before .before in
+    joined (s .args .opening) (s .args .supply) _ _ _ _ _ (s .pre) (f .first4 .ensures) (k .rate-number .ensures) (c .before .before .first3 .ensures) (c .before .either .ensures) (c .either2 .ensures)
 
 pub opening-number-spec : {M : Type 1} → statement M
 opening-number-spec =
@@ -62,7 +68,7 @@ opening-number-spec =
     (tie.spec
     first4-requires
     rate-number-requires
-    first1-requires
+    first3-requires
     either-requires
     either-requires-2
     returns)

@@ -3,6 +3,8 @@
 use borrow.Author.Needs.{needs}
 use Rattle.quotes.proofs.slippage_number.Statement.{statement}
 use Rattle.quotes.proofs.slippage_number.Tie as tie
+use Rattle.refusal.proofs.first1.Reads as first1-reads
+use Rattle.refusal.proofs.first2.Reads as first2-reads
 
 first2-requires : tie.Need-first2-requires
 first2-requires c κs = search needs

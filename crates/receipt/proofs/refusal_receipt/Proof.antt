@@ -15,10 +15,15 @@ no-trade-requires c κs = search needs
 nothing-shared-requires : tie.Need-nothing-shared-requires
 nothing-shared-requires c κs = search needs
 
+nothing-charged-requires : tie.Need-nothing-charged-requires
+nothing-charged-requires c κs = search needs
+
 returns : tie.Need-returns
 unfolding refusal
-returns c = rw (c .before .before .nothing-paid .ensures, c .before .no-trade .ensures, c .nothing-shared .ensures) refl
+returns c =
+    let k = c .before .before in
+    rw (k .before .nothing-paid .ensures, k .no-trade .ensures, c .before .nothing-shared .ensures, c .nothing-charged .ensures) refl
 
 pub refusal-receipt-spec : {M : Type 1} → statement M
 refusal-receipt-spec =
-    tie.close (tie.spec nothing-paid-requires no-trade-requires nothing-shared-requires returns)
+    tie.close (tie.spec nothing-paid-requires no-trade-requires nothing-shared-requires nothing-charged-requires returns)

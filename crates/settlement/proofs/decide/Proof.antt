@@ -35,7 +35,7 @@ returns-2 : tie.Need-returns-2
 unfolding settlementAfter settlementAt settlementTests paidOut feeDown
 returns-2 c =
     c .pay-out .ensures
-    ∙ (λ i. paidOut (c .before .before .share-floor .ensures i) (c .before .share-floor2 .ensures i) (c .before .before .before .before .args .books))
+    ∙ (λ i. paidOut (c .before .before .share-floor .ensures i) (c .before .share-floor2 .ensures i) (c .before .before .before .before .args .charges) (c .before .before .before .before .args .books))
     ∙ outcome-past _ _ _ _ (omega (arith, turns))
 
 pub decide-spec : {M : Type 1} → statement M

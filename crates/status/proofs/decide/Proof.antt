@@ -5,6 +5,8 @@ use Prim.Native.Nat.{ℕ, _≤_}
 use borrow.Author.Tests.{ltb-false}
 use Rattle.refusal.specs.Tests.{first}
 use Rattle.refusal.proofs.Stops.{first-passed, outcome-stop, outcome-go}
+use Rattle.charge.specs.declared.Charged.{Charged}
+use Rattle.charge.specs.Charge.{nothingCharged}
 use Rattle.receipt.specs.declared.Receipt.{Receipt}
 use Rattle.receipt.specs.Receipt.{refusal, amounts}
 use Rattle.status.specs.Status.{flagged, statusTests, statusAfter}
@@ -41,21 +43,26 @@ within bit flag n e z =
 with-bit-requires : tie.Need-with-bit-requires
 with-bit-requires c κs = within _ _ _ (number (c .before)) (c .if1 .left)
 
+nothing-charged-requires : tie.Need-nothing-charged-requires
+nothing-charged-requires c κs = search needs
+
 amounts-receipt-requires : tie.Need-amounts-receipt-requires
 amounts-receipt-requires c κs = search needs
 
 accepted :
-    (status bit flag n next : ℕ) (receipt : Receipt) → next ≡ flagged bit flag status → receipt ≡ amounts 7 0 0 0 0 0
+    (status bit flag n next : ℕ) (charged : Charged) (receipt : Receipt) → next ≡ flagged bit flag status → charged ≡ nothingCharged
+    → receipt ≡ amounts 7 0 0 0 0 0 charged
     → n ≡ first (statusTests bit flag) → n ≡ 0 → record { status = next; receipt = receipt } ≡ statusAfter status bit flag
 unfolding statusTests statusAfter
-accepted status bit flag n next receipt e f h z = rw (e, f) (outcome-go _ _ _ n refl h z)
+accepted status bit flag n next charged receipt e g f h z = rw (e, f, g) (outcome-go _ _ _ n refl h z)
 
 returns-2 : tie.Need-returns-2
 returns-2 c =
-    let e = c .before .before in
+    let e = c .before .before .before in
     let a = e .before .before .args in
-    accepted (a .status) (a .bit) (a .flag) _ _ _ (c .before .with-bit .ensures) (c .amounts-receipt .ensures) (number (e .before)) (e .if1 .left)
+    accepted (a .status) (a .bit) (a .flag) _ _ _ _ (c .before .before .with-bit .ensures) (c .before .nothing-charged .ensures)
+    (c .amounts-receipt .ensures) (number (e .before)) (e .if1 .left)
 
 pub decide-spec : {M : Type 1} → statement M
 decide-spec =
-    tie.close (tie.spec first2-requires refusal-receipt-requires returns with-bit-requires amounts-receipt-requires returns-2)
+    tie.close (tie.spec first2-requires refusal-receipt-requires returns with-bit-requires nothing-charged-requires amounts-receipt-requires returns-2)

@@ -27,7 +27,7 @@ returns : tie.Need-returns
 returns c =
     let n = c .before .before in
     let a = n .before .before .before .before .args in
-    book-refused (a .by-input) (a .zero-in) (a .zero-fee) (a .s) (a .books) (a .ring) (entryOf (a .newest)) (a .net0) (a .net1) (a .clock)
+    book-refused (a .by-input) (a .zero-in) (a .zero-fee) (a .s) (a .charged) (a .books) (a .ring) (entryOf (a .newest)) (a .net0) (a .net1) (a .clock)
     _ (n .before .before .booked .ensures) _ (n .number .given .1) (c .refused-swap .ensures)
 
 enum-known-fees : tie.Need-enum-known-fees
@@ -53,11 +53,11 @@ vault-number c = rw (sym (c .before .before .of-token .ensures), sym (c .before 
 paid :
     (c : tie.After-first1) {r : SwapAfter}
     → let a = c .before .before .before .before .before .before .before .before .args in
-    r ≡ paidSwap (a .by-input) (a .zero-in) (a .zero-fee) (a .s) (c .before .before .before .before .fees .given .0 .0) (a .books) (a .ring) (entryOf (a .newest)) (a .net0) (a .net1) (a .clock)
-    → r ≡ bookedSwap (a .by-input) (a .zero-in) (a .zero-fee) (a .s) (a .books) (a .ring) (entryOf (a .newest)) (a .net0) (a .net1) (a .clock)
+    r ≡ paidSwap (a .by-input) (a .zero-in) (a .zero-fee) (a .s) (a .charged) (c .before .before .before .before .fees .given .0 .0) (a .books) (a .ring) (entryOf (a .newest)) (a .net0) (a .net1) (a .clock)
+    → r ≡ bookedSwap (a .by-input) (a .zero-in) (a .zero-fee) (a .s) (a .charged) (a .books) (a .ring) (entryOf (a .newest)) (a .net0) (a .net1) (a .clock)
 paid c d =
     let a = c .before .before .before .before .before .before .before .before .args in
-    book-paid (a .by-input) (a .zero-in) (a .zero-fee) (a .s) (a .books) (a .ring) (entryOf (a .newest)) (a .net0) (a .net1) (a .clock)
+    book-paid (a .by-input) (a .zero-in) (a .zero-fee) (a .s) (a .charged) (a .books) (a .ring) (entryOf (a .newest)) (a .net0) (a .net1) (a .clock)
     _ (c .before .before .before .before .before .before .booked .ensures) _ (c .before .before .before .before .fees .given .1) d
 
 refused-swap-requires-2 : tie.Need-refused-swap-requires-2
@@ -68,14 +68,14 @@ returns-2 c =
     let k = c .before .before in
     let a = k .before .before .before .before .before .before .before .before .args in
     paid k
-    (vault-refused (a .by-input) (a .zero-in) (a .zero-fee) (a .s) (a .books) (a .ring) (entryOf (a .newest)) (a .net0) (a .net1) (a .clock)
+    (vault-refused (a .by-input) (a .zero-in) (a .zero-fee) (a .s) (a .charged) (a .books) (a .ring) (entryOf (a .newest)) (a .net0) (a .net1) (a .clock)
     _ _ (vault-number k) (c .refused-swap2 .ensures) (c .before .if1 .taken))
 
 pay-vaults-requires : tie.Need-pay-vaults-requires
 pay-vaults-requires c κs =
     let k = c .before in
     let a = k .before .before .before .before .before .before .before .before .args in (
-      pay-room (a .by-input) (a .zero-in) (a .zero-fee) (a .s) (a .books) (a .ring) (entryOf (a .newest)) (a .net0) (a .net1) (a .clock)
+      pay-room (a .by-input) (a .zero-in) (a .zero-fee) (a .s) (a .charged) (a .books) (a .ring) (entryOf (a .newest)) (a .net0) (a .net1) (a .clock)
           (a .books .fees) _ (vault-number k) (c .if1 .left),
       k .before .before .before .before .before .before .before .before .pre,
     )
@@ -94,7 +94,7 @@ returns-3 c =
     let k = c .before .before .before .before .before .before in
     let a = k .before .before .before .before .before .before .before .before .args in
     paid k
-    (ring-refused (a .by-input) (a .zero-in) (a .zero-fee) (a .s) (a .books) (a .ring) (entryOf (a .newest)) (a .net0) (a .net1) (a .clock)
+    (ring-refused (a .by-input) (a .zero-in) (a .zero-fee) (a .s) (a .charged) (a .books) (a .ring) (entryOf (a .newest)) (a .net0) (a .net1) (a .clock)
     _ _ (vault-number k) (c .before .before .before .before .before .if1 .left) (c .before .before .before .observe .ensures) (c .before .before .after .ensures) (c .refused-swap3 .ensures) (c .before .if2 .taken))
 
 swap-receipt-requires : tie.Need-swap-receipt-requires
@@ -105,7 +105,7 @@ returns-4 c =
     let k = c .before .before .before .before .before .before .before in
     let a = k .before .before .before .before .before .before .before .before .args in
     paid k
-    (pay-accepted (a .by-input) (a .zero-in) (a .zero-fee) (a .s) (a .books) (a .ring) (entryOf (a .newest)) (a .net0) (a .net1) (a .clock)
+    (pay-accepted (a .by-input) (a .zero-in) (a .zero-fee) (a .s) (a .charged) (a .books) (a .ring) (entryOf (a .newest)) (a .net0) (a .net1) (a .clock)
     _ _ (vault-number k) (c .before .before .before .before .before .before .if1 .left) (c .before .before .before .before .observe .ensures) (c .before .before .before .after .ensures) _ _ (c .before .before .if2 .left)
     (c .before .before .before .before .before .pay-vaults .ensures) (c .swap-receipt .ensures))
 

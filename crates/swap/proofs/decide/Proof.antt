@@ -31,16 +31,19 @@ newest-requires c κs = search needs
 
 book-requires : tie.Need-book-requires
 book-requires c κs =
-    let a = c .before .before .before .before .before .before .before .args in
+    let r = c .before .before .before .before .before in
+    let a = r .before .before .before .args in
     quote-covered (a .by-input) (a .terms) (a .status) (a .books) (a .direction) (a .amount) (a .limit) (a .clock)
-    (c .before .before .before .before .before .before .quote-swap .ensures) (c .before .before .before .before .if1 .left)
+    (r .before .before .quote-swap .ensures) (r .if1 .left)
 
 returns-2 : tie.Need-returns-2
 returns-2 c =
-    let a = c .before .before .before .before .before .before .before .before .args in
+    let k = c .before .before .before .before in
+    let r = k .before .before in
+    let a = r .before .before .before .args in
     quote-booked (a .terms) (a .status) (a .books) (a .ring) (newest (a .ring) (now (a .entries))) (a .direction) (a .amount) (a .limit) (a .clock) (a .by-input)
-    (c .before .before .before .before .before .before .before .quote-swap .ensures) (c .before .before .before .before .before .if1 .left) (c .before .before .before .before .is-creator-fee-on-input .ensures)
-    (c .before .before .before .creator-token .ensures) (c .before .newest .ensures) (c .book .ensures)
+    (r .before .before .quote-swap .ensures) (r .if1 .left) (k .before .is-creator-fee-on-input .ensures) (k .creator-token .ensures)
+    (c .before .newest .ensures) (c .book .ensures)
 
 pub decide-spec : {M : Type 1} → statement M
 decide-spec =

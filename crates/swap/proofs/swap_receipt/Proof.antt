@@ -33,7 +33,7 @@ returns : tie.Need-returns
 returns c =
     let k = c .before .before .before .before in
     let a = k .before .before .before .before .args in
-    receipt-is (a .by-input) (a .zero-in) (a .zero-fee) (a .s) (a .clock) _ _ _ _ _ _ _ _ (k .before .before .before .nothing-shared .ensures)
+    receipt-is (a .by-input) (a .zero-in) (a .zero-fee) (a .s) (a .charged) (a .clock) _ _ _ _ _ _ _ _ (k .before .before .before .nothing-shared .ensures)
     (k .before .before .of-token .ensures) (k .before .of-token2 .ensures) (k .of-token3 .ensures) (c .before .before .before .of-token4 .ensures)
     (c .before .before .of-token5 .ensures) (c .before .of-token6 .ensures) (c .of-token7 .ensures)
 

@@ -1,5 +1,6 @@
 //! Functions alone and the ring alone.
 
+use super::charges;
 use crate::random::Random;
 use record::{Case, FORMS};
 
@@ -12,6 +13,7 @@ pub fn case(random: &mut Random) -> Case {
     let kind = random.pick(&kinds);
     let columns = match kind {
         10..=17 => fee(random, kind),
+        18 | 19 => charge(random, kind),
         20 | 21 => curve(random),
         22 => vec![random.any(), random.any(), random.any(), random.any(), random.below(2)],
         23 => vec![random.any(), random.any(), random.pick(&[0, 0, 1, u64::MAX]), random.any()],
@@ -38,6 +40,17 @@ fn fee(random: &mut Random, kind: u64) -> Vec<u64> {
         columns.push(rate(random));
     }
     columns
+}
+
+/// What is to arrive is also at and beside the most that can, past which there is 14.
+fn charge(random: &mut Random, kind: u64) -> Vec<u64> {
+    let [charge, _] = charges::by_hand(random, charges::some);
+    let amount = if kind == 19 && random.chance(3) {
+        random.near(charges::most_arriving(charge))
+    } else {
+        random.any()
+    };
+    vec![amount, charge.points, charge.maximum]
 }
 
 fn curve(random: &mut Random) -> Vec<u64> {

@@ -1,6 +1,7 @@
 //! Arguments for a call on a state: at and beside what the pool holds, and limits that just
 //! pass or just fail.
 
+use super::charges::most_arriving;
 use crate::random::Random;
 use record::{Call, Case, State};
 
@@ -47,25 +48,37 @@ fn swap(random: &mut Random, state: &State, kind: u64) -> Vec<u64> {
     vec![direction, amount, limit, clock]
 }
 
-/// The limit at which the swap just passes, or one beside it.
+/// The limit at which the swap just passes, or one beside it; at times the vault's amount, which is not
+/// the solver's where there are charges.
 fn beside_price(random: &mut Random, state: &State, kind: u64, arguments: [u64; 4]) -> u64 {
     let call = Call::from_words(kind, &arguments).expect("a swap takes four words");
     let receipt = model::run(state, &call).receipt;
-    let [a0, a1] = if kind == 2 { receipt.paid_out } else { receipt.paid_in };
+    let token_in = usize::from(receipt.direction != 0);
+    let price = match (kind, random.chance(4)) {
+        (2, false) => receipt.received(1 - token_in),
+        (2, true) => receipt.paid_out[1 - token_in],
+        (_, false) => receipt.sent(token_in),
+        (_, true) => receipt.paid_in[token_in],
+    };
     let beside = random.below(3);
-    a0.max(a1).saturating_add(beside).saturating_sub(1)
+    price.saturating_add(beside).saturating_sub(1)
 }
 
 fn swap_amount(random: &mut Random, state: &State, kind: u64, direction: u64) -> u64 {
     let vaults = state.pool.vaults;
-    let (vault_in, vault_out) = if direction == 0 { (vaults[0], vaults[1]) } else { (vaults[1], vaults[0]) };
-    match random.below(8) {
+    let (token_in, token_out) = if direction == 0 { (0, 1) } else { (1, 0) };
+    let (vault_in, vault_out) = (vaults[token_in], vaults[token_out]);
+    let (charge_in, charge_out) = (state.pool.charges[token_in], state.pool.charges[token_out]);
+    match random.below(9) {
         0 => random.below(20),
         1 => random.any(),
         2 => random.near(u64::MAX - vault_in),
         3 => random.near(vault_out),
         4 => random.near(vault_in),
         5 if kind == 3 => vault_out - random.up_to(vault_out.min(1000)),
+        // The most that can arrive, and what a charge of all takes whole.
+        6 if kind == 3 && charge_out.points > 0 => random.near(most_arriving(charge_out)),
+        6 if kind == 2 && charge_in.points > 0 => random.near(charge_in.maximum),
         _ => {
             let held = if kind == 3 { vault_out } else { vault_in };
             random.up_to(held) >> random.below(30)
@@ -103,7 +116,7 @@ fn liquidity(random: &mut Random, state: &State, kind: u64) -> Vec<u64> {
     }
     let call = Call::from_words(kind, &with_limits(loose, loose)).expect("a change of LP takes such words");
     let receipt = model::run(state, &call).receipt;
-    let [a0, a1] = if kind == 4 { receipt.paid_in } else { receipt.paid_out };
+    let [a0, a1] = [0, 1].map(|t| if kind == 4 { receipt.sent(t) } else { receipt.received(t) });
     let (first, second) = (random.near(a0), random.near(a1));
     with_limits(if random.chance(2) { first } else { loose }, if random.chance(2) { second } else { loose })
 }

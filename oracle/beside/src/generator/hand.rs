@@ -1,23 +1,25 @@
 //! Pools by hand: even ones, full ones, steep ones, and ones that no list of calls reaches.
 
 use super::arguments;
+use super::charges::{self, Charges};
 use crate::random::Random;
-use record::{filled_ring, Case, Pool, Rates, RingHead, State};
+use record::{filled_ring, Case, Charge, Pool, Rates, RingHead, State, POOL_LENGTH};
 
-pub fn case(random: &mut Random) -> Case {
-    let state = state(random);
+pub fn case(random: &mut Random, charges: Charges) -> Case {
+    let state = state(random, charges);
     let kind = random.pick(&[2, 2, 2, 3, 3, 3, 4, 5, 6, 7]);
     arguments::call(random, &state, kind)
 }
 
-fn state(random: &mut Random) -> State {
+fn state(random: &mut Random, charges: Charges) -> State {
     let mut pool = match random.below(5) {
         0 => small(random),
         1 => even(random),
         2 => full(random),
         3 => steep(random),
-        _ => return inconsistent(random),
+        _ => return inconsistent(random, charges),
     };
+    pool.charges = charges::by_hand(random, charges);
     pool.status = if random.chance(8) { random.below(8) } else { 0 };
     pool.open_time = if random.chance(4) { random.any() } else { 0 };
     pool.fee_model = if random.chance(30) { random.pick(&[3, 255]) } else { random.below(3) };
@@ -132,8 +134,9 @@ fn ring(random: &mut Random, mut pool: Pool) -> State {
 }
 
 /// Every number as it comes: counters above vaults, sums past 64 bits, an index past the ring.
-fn inconsistent(random: &mut Random) -> State {
-    let mut words: [u64; 21] = std::array::from_fn(|_| random.any());
+fn inconsistent(random: &mut Random, charges: Charges) -> State {
+    let mut words: [u64; POOL_LENGTH] = std::array::from_fn(|_| random.any());
+    words[21..].copy_from_slice(&Charge::words(charges::by_hand(random, charges)));
     words[9] = if random.chance(20) { random.any() } else { random.below(8) };
     words[11] = if random.chance(20) { random.any() } else { random.below(4) };
     (words[12], words[18]) = (random.below(2), random.below(2));

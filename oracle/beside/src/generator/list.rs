@@ -1,9 +1,10 @@
 //! Lists of calls from openings, in any order, that fill and empty the pool. The next call
 //! gets the state that the rules give after the one before.
 
+use super::charges::{self, Charges};
 use super::{arguments, hand};
 use crate::random::Random;
-use record::{Case, State};
+use record::{Case, Opening, State};
 
 pub struct List {
     state: State,
@@ -17,7 +18,10 @@ impl List {
     }
 
     pub fn next_case(&mut self, random: &mut Random) -> Case {
-        let case = if self.calls_left == 0 { opening(random) } else { call(random, &self.state) };
+        let case = match self.calls_left {
+            0 => opening(random, charges::mixed),
+            _ => call(random, &self.state),
+        };
         let call = case.call().expect("a list holds calls only");
         let after = model::run(&self.state, &call);
         if self.calls_left > 0 {
@@ -49,17 +53,22 @@ pub fn call(random: &mut Random, state: &State) -> Case {
 }
 
 /// An opening that begins a list, or is refused.
-pub fn opening(random: &mut Random) -> Case {
+pub fn opening(random: &mut Random, charges: Charges) -> Case {
     let amounts = match random.below(4) {
         0 => [random.edge(), random.edge()],
         1 => [1 + random.below(300), 1 + random.below(300)],
         _ => [random.sized(), random.sized()],
     };
-    let model = if random.chance(20) { random.any() } else { random.below(3) };
+    let fee_model = if random.chance(20) { random.any() } else { random.below(3) };
     let enabled = if random.chance(20) { random.any() } else { random.below(2) };
     let open_time = if random.chance(4) { random.any() } else { 0 };
     let rates = hand::rates(random);
-    let rates = [rates.trade, rates.protocol, rates.fund, rates.creator, rates.share];
-    let columns = [&amounts[..], &[model, enabled, open_time], &rates].concat();
-    Case { kind: 1, columns }
+    // Points past what an opening accepts are tried on some that bear charges.
+    let charges = if random.chance(10) { charges::by_hand(random, charges) } else { charges(random) };
+    of(Opening { amounts, fee_model, enabled, open_time, rates, charges })
+}
+
+/// The case of an opening.
+pub fn of(opening: Opening) -> Case {
+    Case { kind: 1, columns: opening.words().to_vec() }
 }

@@ -2,6 +2,7 @@
 
 pub mod alone;
 mod arguments;
+pub mod charges;
 pub mod hand;
 pub mod list;
 pub mod small;
@@ -28,7 +29,7 @@ impl Iterator for Generator {
         let random = &mut self.random;
         Some(match random.below(10) {
             0..4 => self.list.next_case(random),
-            4..8 => hand::case(random),
+            4..8 => hand::case(random, charges::mixed),
             _ => alone::case(random),
         })
     }

@@ -40,6 +40,10 @@ fn grids() -> Vec<Grid> {
     }
     grids.extend([deposits(), withdrawals(), settlements(), statuses(), openings(), ring()]);
     grids.push(ring_past_its_end());
+    for rates in [RATES[0], WORKED] {
+        grids.extend([2, 3].map(|kind| charged_swaps(kind, rates)));
+    }
+    grids.extend([charged_deposits(), charged_withdrawals(), charged_settlements(), charged_openings()]);
     grids
 }
 
@@ -47,12 +51,20 @@ fn to(greatest: u64) -> Vec<u64> {
     (0..=greatest).collect()
 }
 
-/// A pool without fees booked, of which the caller widens single columns.
+/// A pool without fees booked or charges, of which the caller widens single columns. One maximum is not
+/// 0, which at points 0 changes nothing.
 fn pool(rates: [u64; 5]) -> Vec<Vec<u64>> {
     let mut columns = vec![vec![0]; 13];
     columns.extend(rates.map(|rate| vec![rate]));
     columns.extend([vec![1], vec![99], vec![5]]);
+    columns.extend([vec![0], vec![3], vec![0], vec![0]]);
     columns
+}
+
+/// Puts charges into a pool's columns; at times there are none of either token.
+fn charge(columns: &mut [Vec<u64>]) {
+    (columns[21], columns[22]) = (vec![0, 1, 5000, 10_000], vec![0, 1, u64::MAX]);
+    (columns[23], columns[24]) = (vec![0, 9999], vec![2, u64::MAX]);
 }
 
 /// A swap's pool, with the newest entry of its ring.
@@ -107,6 +119,49 @@ fn settlements() -> Grid {
     Grid { kind: 6, columns }
 }
 
+fn charged_swaps(kind: u64, rates: [u64; 5]) -> Grid {
+    let mut columns = pool_and_entry(rates);
+    (columns[0], columns[1]) = (vec![1, 3, 6], vec![2, 9]);
+    charge(&mut columns);
+    let limits = if kind == 2 { to(2) } else { vec![1, 4, u64::MAX] };
+    columns.extend([to(2), to(8), limits, vec![20]]);
+    Grid { kind, columns }
+}
+
+fn charged_deposits() -> Grid {
+    let mut columns = pool(WORKED);
+    (columns[0], columns[1], columns[8]) = (vec![0, 2, 5], vec![3, 6], vec![1, 4]);
+    charge(&mut columns);
+    columns.extend([to(6), vec![0, 1, 3, 9], vec![0, 2, 9, u64::MAX]]);
+    Grid { kind: 4, columns }
+}
+
+fn charged_withdrawals() -> Grid {
+    let mut columns = pool(WORKED);
+    (columns[0], columns[1], columns[8]) = (vec![0, 2, 5], vec![3, 6], vec![1, 4]);
+    charge(&mut columns);
+    columns.extend([to(6), vec![0, 9], to(2), to(2)]);
+    Grid { kind: 5, columns }
+}
+
+fn charged_settlements() -> Grid {
+    let mut columns = pool(WORKED);
+    (columns[0], columns[1]) = (to(4), to(4));
+    (columns[6], columns[7]) = (to(4), to(4));
+    charge(&mut columns);
+    columns.push(vec![0, 500_000]);
+    Grid { kind: 6, columns }
+}
+
+fn charged_openings() -> Grid {
+    let (points, maximums) = (vec![0, 1, 9999, 10_000, u64::MAX], vec![0, u64::MAX]);
+    let mut columns = vec![vec![0, 100, 101]; 2];
+    columns.extend([vec![0, 3], to(2), vec![0]]);
+    columns.extend([vec![0, 1_000_000], vec![0], vec![0], vec![0], vec![0, 1_000_001]]);
+    columns.extend([points.clone(), maximums.clone(), points, maximums]);
+    Grid { kind: 1, columns }
+}
+
 fn statuses() -> Grid {
     let mut columns = pool(WORKED);
     columns[9] = to(16);
@@ -118,6 +173,7 @@ fn openings() -> Grid {
     let mut columns = vec![(0..=110).step_by(5).chain([101, 102]).collect(); 2];
     columns.extend([to(3), to(2), vec![0]]);
     columns.extend([vec![0, 999_999], vec![0, 1_000_000], to(1), to(1), vec![0, 1_000_000, 1_000_001]]);
+    columns.extend(vec![vec![0]; 4]);
     Grid { kind: 1, columns }
 }
 
@@ -126,6 +182,9 @@ fn alone() -> Vec<Grid> {
     let mut grids: Vec<Grid> =
         [10, 11, 12, 13, 14, 16, 17].map(|kind| Grid { kind, columns: vec![to(40), rates.clone()] }).into();
     grids.push(Grid { kind: 15, columns: vec![to(20), to(6), to(6)] });
+    let points = vec![0, 1, 2, 25, 3333, 5000, 9998, 9999, 10_000, 10_001, 20_000];
+    let charged = vec![to(40), points, vec![0, 1, 5, 39, u64::MAX]];
+    grids.extend([18, 19].map(|kind| Grid { kind, columns: charged.clone() }));
     grids.extend([20, 21].map(|kind| Grid { kind, columns: vec![to(15), to(15), to(15)] }));
     grids.push(Grid { kind: 22, columns: vec![to(8), to(8), to(8), to(8), YES_NO.to_vec()] });
     grids.push(Grid { kind: 23, columns: vec![to(1), to(20), to(1), to(20)] });

@@ -1,4 +1,4 @@
-//! Document 01, 'The calls', with document 02 (a) and (b): each is its steps in order, and the
+//! Document 01, 'The calls', with document 02 (a), (b) and (c): each is its steps in order, and the
 //! first that fails gives the number.
 
 mod liquidity;
@@ -7,10 +7,13 @@ mod settlement;
 mod status;
 pub(crate) mod swap;
 
+use crate::charge::{charge_on, least_sent};
 use crate::fees::MILLION;
-use crate::refusal::{refuse_if, INSUFFICIENT_VAULT, INVALID_INPUT, MATH_OVERFLOW};
+use crate::refusal::{
+    refuse_if, INSUFFICIENT_VAULT, INVALID_INPUT, MATH_OVERFLOW, TRANSFER_FEE_CALCULATE_NOT_MATCH,
+};
 use crate::whole::whole;
-use record::{Call, Pool, Rates, Receipt, State};
+use record::{Call, Charge, Pool, Rates, Receipt, State};
 
 /// The state after an accepted call and its receipt, or the number of the step that failed.
 pub type Accepted = Result<(State, Receipt), u64>;
@@ -45,4 +48,19 @@ pub fn rate_limits(rates: &Rates) -> Result<(), u64> {
 /// The sum as u64, or this number.
 fn sum_or(left: u64, right: u64, number: u64) -> Result<u64, u64> {
     (whole(left) + whole(right)).as_u64().ok_or(number)
+}
+
+/// What has to be sent so that this arrives, or 14.
+pub(crate) fn sent(wanted: u64, charge: Charge) -> Result<u64, u64> {
+    least_sent(whole(wanted), charge).as_u64().ok_or(TRANSFER_FEE_CALCULATE_NOT_MATCH)
+}
+
+/// The charge on an amount that is sent.
+pub fn charged(amount: u64, charge: Charge) -> u64 {
+    charge_on(whole(amount), charge).as_u64().expect("a charge is at most its amount")
+}
+
+/// The charge on each token's amount that leaves the vaults.
+fn charges_on(pool: &Pool, amounts: [u64; 2]) -> [u64; 2] {
+    [0, 1].map(|t| charged(amounts[t], pool.charges[t]))
 }

@@ -1,4 +1,4 @@
-//! Opening.
+//! Opening. Its amounts are those that arrived, so it bears no charge.
 
 use super::{rate_limits, Accepted};
 use crate::fees::MILLION;
@@ -7,6 +7,8 @@ use crate::whole::{whole, whole_root};
 use record::{Opening, Pool, Receipt};
 
 const LEAST_SUPPLY: u64 = 101;
+/// Of 10,000.
+const MOST_POINTS: u64 = 9999;
 
 pub fn open(opening: &Opening) -> Accepted {
     let [amount_0, amount_1] = opening.amounts;
@@ -15,6 +17,7 @@ pub fn open(opening: &Opening) -> Accepted {
     refuse_if(opening.enabled > 1, INVALID_INPUT)?;
     rate_limits(&opening.rates)?;
     refuse_if(opening.rates.share > MILLION, INVALID_INPUT)?;
+    refuse_if(opening.charges.iter().any(|charge| charge.points > MOST_POINTS), INVALID_INPUT)?;
     let root = whole_root(whole(amount_0) * whole(amount_1));
     let supply = root.as_u64().expect("the root of a product of two u64 is a u64");
     refuse_if(supply < LEAST_SUPPLY, INIT_LP_AMOUNT_TOO_LESS)?;
@@ -26,6 +29,7 @@ pub fn open(opening: &Opening) -> Accepted {
         fee_model: opening.fee_model,
         enabled: opening.enabled == 1,
         rates: opening.rates,
+        charges: opening.charges,
         ..Pool::default()
     };
     let receipt = Receipt { kind: 1, paid_in: opening.amounts, lp: supply, ..Receipt::default() };

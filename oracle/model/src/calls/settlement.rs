@@ -1,6 +1,6 @@
-//! Settlement.
+//! Settlement. Document 02 (c): what the creators' transfers are charged stands in the receipt.
 
-use super::{sum_or, Accepted};
+use super::{charges_on, sum_or, Accepted};
 use crate::fees::{part_rounded_down, MILLION};
 use crate::refusal::{refuse_if, INSUFFICIENT_VAULT, INVALID_INPUT, MATH_OVERFLOW};
 use crate::whole::whole;
@@ -23,5 +23,6 @@ pub fn settle(state: &State, share: u64) -> Accepted {
         after.pool.vaults[t] -= paid_out[t];
     }
     after.pool.creator = [0, 0];
-    Ok((after, Receipt { kind: 6, paid_out, shared, ..Receipt::default() }))
+    let charges = charges_on(pool, paid_out);
+    Ok((after, Receipt { kind: 6, paid_out, shared, charges, ..Receipt::default() }))
 }

@@ -1,12 +1,12 @@
 //! Swap by input and swap by output. By document 02 (a) no swap answers 4, by (b) closed comes before
-//! the amount.
+//! the amount, by (c) curve, fees and vaults see what arrives and what leaves.
 
-use super::{nets, rate_limits, sum_or, Accepted};
+use super::{charged, nets, rate_limits, sent, sum_or, Accepted};
 use crate::curve::{input_for, output_for};
 use crate::fees::{calculate_pre_fee_amount, fee_rounded_up, part_rounded_down, split_creator_fee};
 use crate::refusal::*;
 use crate::ring;
-use crate::whole::{whole, Whole, ZERO};
+use crate::whole::{whole, Whole};
 use record::{Pool, Receipt, State, Swap};
 
 /// What a swap is reckoned from once its first tests have passed.
@@ -18,7 +18,7 @@ struct Terms {
     creator_rate: u64,
 }
 
-/// What a swap pays and charges. Protocol and fund fee are parts of the trade fee.
+/// What a swap pays into and out of the vaults, and its fees. Protocol and fund fee are parts of the trade fee.
 struct Quote {
     paid_in: Whole,
     paid_out: Whole,
@@ -27,26 +27,45 @@ struct Quote {
 }
 
 pub fn by_input(state: &State, swap: &Swap) -> Accepted {
-    let terms = terms(&state.pool, swap)?;
-    let quote = terms.quote_input(whole(swap.amount))?;
-    refuse_if(quote.paid_out == ZERO, UNNAMED_REQUIRE)?;
-    refuse_if(quote.paid_out < whole(swap.limit), EXCEEDED_SLIPPAGE)?;
-    booked(state, 2, swap, &terms, &quote)
+    let pool = &state.pool;
+    // Of an unknown direction there is no token whose charge could be taken off.
+    let charge_in =
+        pool.charges.get(swap.direction as usize).map_or(0, |charge| charged(swap.amount, *charge));
+    let arriving = swap.amount - charge_in;
+    front_tests(pool, swap, arriving)?;
+    let terms = terms(pool, swap)?;
+    let quote = terms.quote_input(whole(arriving))?;
+    let leaving = word(quote.paid_out);
+    let charge_out = charged(leaving, pool.charges[terms.token_out()]);
+    let received = leaving - charge_out;
+    refuse_if(received == 0, UNNAMED_REQUIRE)?;
+    refuse_if(received < swap.limit, EXCEEDED_SLIPPAGE)?;
+    booked(state, 2, swap, &terms, &quote, [charge_in, charge_out])
 }
 
 pub fn by_output(state: &State, swap: &Swap) -> Accepted {
-    let terms = terms(&state.pool, swap)?;
-    let quote = terms.quote_output(whole(swap.amount))?;
-    refuse_if(quote.paid_in > whole(swap.limit), EXCEEDED_SLIPPAGE)?;
-    booked(state, 3, swap, &terms, &quote)
+    let pool = &state.pool;
+    front_tests(pool, swap, swap.amount)?;
+    let leaving = sent(swap.amount, pool.charges[1 - swap.direction as usize])?;
+    let terms = terms(pool, swap)?;
+    let quote = terms.quote_output(whole(leaving))?;
+    let arriving = word(quote.paid_in);
+    let sent = sent(arriving, pool.charges[terms.token_in])?;
+    refuse_if(sent > swap.limit, EXCEEDED_SLIPPAGE)?;
+    booked(state, 3, swap, &terms, &quote, [sent - arriving, leaving - swap.amount])
 }
 
-/// The tests that both swaps begin with, down to the fee model.
-fn terms(pool: &Pool, swap: &Swap) -> Result<Terms, u64> {
+/// The tests that both swaps begin with, down to the direction, of what arrives by input and of what
+/// is wanted by output.
+fn front_tests(pool: &Pool, swap: &Swap, asked: u64) -> Result<(), u64> {
     rate_limits(&pool.rates)?;
     refuse_if(pool.status_bit(2) || swap.clock < pool.open_time, NOT_APPROVED)?;
-    refuse_if(swap.amount == 0, UNNAMED_REQUIRE)?;
-    refuse_if(swap.direction > 1, INVALID_VAULT)?;
+    refuse_if(asked == 0, UNNAMED_REQUIRE)?;
+    refuse_if(swap.direction > 1, INVALID_VAULT)
+}
+
+/// The tests of both swaps that follow, down to the fee model.
+fn terms(pool: &Pool, swap: &Swap) -> Result<Terms, u64> {
     let nets = nets(pool)?;
     refuse_if(nets.contains(&0), PANIC)?;
     refuse_if(pool.fee_model > 2, INVALID_FEE_MODEL)?;
@@ -65,12 +84,16 @@ pub(crate) fn fee_on_input(model: u64, direction: u64) -> bool {
 }
 
 impl Terms {
+    fn token_out(&self) -> usize {
+        1 - self.token_in
+    }
+
     fn net_in(&self) -> Whole {
         self.nets[self.token_in]
     }
 
     fn net_out(&self) -> Whole {
-        self.nets[1 - self.token_in]
+        self.nets[self.token_out()]
     }
 
     /// Splits a total fee on the input into trade and creator fee.
@@ -117,12 +140,21 @@ impl Terms {
     }
 }
 
-/// The last steps of both swaps: counters, vault, ring at the prices before the swap.
-fn booked(state: &State, kind: u64, swap: &Swap, terms: &Terms, quote: &Quote) -> Accepted {
+/// The last steps of both swaps: counters, vault, ring at the prices before the swap. The charges are
+/// on the input and on the output.
+fn booked(
+    state: &State,
+    kind: u64,
+    swap: &Swap,
+    terms: &Terms,
+    quote: &Quote,
+    charges: [u64; 2],
+) -> Accepted {
     let mut after = state.clone();
-    let receipt = receipt(kind, swap, terms, quote, &state.pool);
+    let mut receipt = receipt(kind, swap, terms, quote, &state.pool);
     let pool = &mut after.pool;
-    let (token_in, token_out) = (terms.token_in, 1 - terms.token_in);
+    let (token_in, token_out) = (terms.token_in, terms.token_out());
+    [receipt.charges[token_in], receipt.charges[token_out]] = charges;
     let fee_token = receipt.creator_fee_token as usize;
     pool.protocol[token_in] = sum_or(pool.protocol[token_in], receipt.protocol_fee, PANIC)?;
     pool.fund[token_in] = sum_or(pool.fund[token_in], receipt.fund_fee, PANIC)?;
@@ -134,8 +166,7 @@ fn booked(state: &State, kind: u64, swap: &Swap, terms: &Terms, quote: &Quote) -
 }
 
 fn receipt(kind: u64, swap: &Swap, terms: &Terms, quote: &Quote, pool: &Pool) -> Receipt {
-    let word = |amount: Whole| amount.as_u64().expect("each amount was tested or is below one that was");
-    let (token_in, token_out) = (terms.token_in, 1 - terms.token_in);
+    let (token_in, token_out) = (terms.token_in, terms.token_out());
     let mut receipt = Receipt {
         kind,
         direction: swap.direction,
@@ -150,4 +181,8 @@ fn receipt(kind: u64, swap: &Swap, terms: &Terms, quote: &Quote, pool: &Pool) ->
     receipt.paid_in[token_in] = word(quote.paid_in);
     receipt.paid_out[token_out] = word(quote.paid_out);
     receipt
+}
+
+fn word(amount: Whole) -> u64 {
+    amount.as_u64().expect("each amount was tested or is below one that was")
 }

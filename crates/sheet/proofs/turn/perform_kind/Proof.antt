@@ -14,6 +14,9 @@ use Rattle.sheet.proofs.turn.perform_kind.Tie as tie
 keep-rates-requires : tie.Need-keep-rates-requires
 keep-rates-requires c κs = search needs
 
+no-charges-requires : tie.Need-no-charges-requires
+no-charges-requires c κs = search needs
+
 open-on-requires : tie.Need-open-on-requires
 open-on-requires c κs = search needs
 
@@ -30,11 +33,11 @@ returns c =
 
 returns-2 : tie.Need-returns-2
 returns-2 c =
-    let m = c .before .before .before .before in
+    let m = c .before .before .before .before .before in
     let a = m .before .args in
     let left = c .open-on .last in
     opening-taken (a .rates) (a .pool .now) (a .ring .now) (m .before .pre) (a .receipt .now) (openingWith (a .a) (a .b) (a .c) (a .d) (a .e) (a .rates))
-    (memory (c .open-on .result) (left .0) (left .1 .0) (left .1 .1 .0)) (c .open-on .ensures)
+    (memory (c .open-on .result) (left .0) (left .1 .0) (left .1 .1 .0)) (rw (c .before .before .before .before .no-charges .ensures) at (c .open-on .ensures))
     ∙ ap turnWords (opens (sheetIn (a .rates) (a .pool .now) (a .ring .now)) (a .kind) (a .a) (a .b) (a .c) (a .d) (a .e) (m .match .keys2))
 
 returns-3 : tie.Need-returns-3
@@ -48,4 +51,4 @@ returns-3 c =
 pub perform-kind-spec : {M : Type 1} → statement M
 perform-kind-spec =
     tie.close
-    (tie.spec keep-rates-requires open-on-requires call-requires returns returns-2 returns-3)
+    (tie.spec keep-rates-requires no-charges-requires open-on-requires call-requires returns returns-2 returns-3)

@@ -20,14 +20,14 @@ booked-requires c κs = search needs
 -- the one call or the other, put back into the pool
 put-back :
     (isDeposit : Bool) (p : Pool) (lp owned limit0 limit1 : ℕ)
-    → bookedIn p (changeAfter isDeposit (p .status) (p .books) lp owned limit0 limit1) ≡ changeOf isDeposit p lp owned limit0 limit1
+    → bookedIn p (changeAfter isDeposit (p .terms .charges) (p .status) (p .books) lp owned limit0 limit1) ≡ changeOf isDeposit p lp owned limit0 limit1
 unfolding deposit withdraw
 put-back true p lp owned limit0 limit1 = refl
 put-back false p lp owned limit0 limit1 = refl
 
 returns : tie.Need-returns
 returns c =
-    let a = c .before .before .before .args in
+    let a = c .before .before .before .before .args in
     c .booked .ensures ∙ ap (bookedIn (a .self)) (c .before .decide .ensures) ∙ put-back (a .is-deposit) (a .self) (a .lp .0) (a .owned .0) (a .limit0 .0) (a .limit1 .0)
 
 pub change-spec : {M : Type 1} → statement M

@@ -1,0 +1,4 @@
+pub mod Charge
+pub mod Transfers
+pub mod Least
+pub mod Stages
