@@ -33,7 +33,7 @@ chargeFor c w =
     (min (ceilDiv (w * c .points) (TenThousand - c .points)) (c .maximum))
     (cond (eqb w 0) 0 (c .maximum))
 
--- the least amount whose rest is w; that it is, is `LeastSent` of Least.antt
+-- the least amount whose rest is w; `LeastSent` of Least.antt says that it is
 unfoldable pub leastSent : Charge → ℕ → ℕ
 leastSent c w = w + chargeFor c w
 

@@ -1,4 +1,4 @@
--- Document 01, 'Edges': the starred ones and the worked day, with what document 02 (a) makes of one, the answers that 02 (b) changes, and a pool whose
+-- Document 01, 'Edges': the starred ones and the worked day, with what document 02 (a) makes of one, the answers that 02 (b) changes, and pools whose
 -- tokens carry charges (02 (c)), in one table. Each row is an opening, what is asked of its pool, and what must come out.
 use Prim.Native.Nat.{ℕ, _+_}
 use mathlib.Core.Path.{_≡_}
@@ -21,7 +21,7 @@ pub data Asked : Type 0 where
   -- a call once this bit of the status is set
   closed : ℕ → Call → Asked
 
--- what document 01 speaks of
+-- what the documents speak of
 pub data Field : Type 0 where
   number : Field
   paidIn0 : Field
@@ -125,7 +125,7 @@ charging points0 maximum0 points1 maximum1 = record {
   charges = record { token0 = record { points = points0; maximum = maximum0 }; token1 = record { points = points1; maximum = maximum1 } };
 }
 
--- token 0 at 100 points with maximum 50, token 1 at 25 points without one
+-- token 0 at 100 points with maximum 50, token 1 at 25 points with maximum 2^64 − 1, which caps nothing
 abbrev prize : Opening
 prize = charging 100 50 25 U64
 

@@ -1,5 +1,6 @@
 -- Document 02 (c): 'At points 0 .. no answer changes'. Each call without a charge, as documents 01 and 02 (a) and (b) have it, and that it is what the
--- call gives where both points are 0, whatever the maximums; its receipt shows charges of 0.
+-- call gives where both points are 0, whatever the maximums; its receipt shows charges of 0, and an opening's terms carry the charges that it is
+-- given. A change of status takes none.
 use Prim.Native.Nat.{ℕ, _+_, _-_, _≤_}
 use mathlib.Core.Path.{_≡_}
 use mathlib.Core.Bool.{Bool, true, false}
