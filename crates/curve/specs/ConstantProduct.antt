@@ -1,9 +1,10 @@
 -- Document 01, 'constant_product.rs, then calculator.rs': the curve without fees, and LP tokens as trading tokens.
 -- 'Called alone on u64 amounts, none answers 4; a divisor of 0 in a swap or a result past u64 answers 11.'
-use Prim.Native.Nat.{ℕ, _+_, _*_, _-_, _/_}
+use Prim.Native.Nat.{ℕ, _+_, _*_, _-_, _/_, _%_}
 use mathlib.Core.Bool.{Bool, cond}
 use mathlib.Core.List.{[], _∷_}
 use lib.Dec.{leb, eqb}
+use Rattle.wide.specs.Value.{u128Of}
 use Rattle.divide.specs.Division.{ceilDiv}
 use Rattle.refusal.specs.Refusal.{ZeroTradingTokens, Panic}
 use Rattle.refusal.specs.Tests.{outcome, past}
@@ -11,6 +12,7 @@ use Rattle.answer.specs.declared.Answer.{Answer}
 use Rattle.answer.specs.declared.Answer.the-variants.{Amount, Refused}
 use Rattle.curve.specs.declared.constant_product.RoundDirection.{RoundDirection}
 use Rattle.curve.specs.declared.constant_product.RoundDirection.the-variants.{Floor, Ceiling}
+use Rattle.curve.specs.declared.constant_product.LpDivided.{LpDivided}
 use Rattle.curve.specs.declared.constant_product.TradingTokens.{TradingTokens}
 use Rattle.curve.specs.declared.constant_product.TradingTokenResult.{TradingTokenResult}
 use Rattle.curve.specs.declared.constant_product.TradingTokenResult.the-variants as T
@@ -47,6 +49,18 @@ swapBaseOutputWithoutFees o netIn netOut =
     ∷ [])
     Refused
     (Amount (swapIn netIn netOut o))
+
+-- none: its number, and zeros
+abbrev pub noQuotient : ℕ → LpDivided
+noQuotient n = record { number = n; quotient = u128Of 0; remainder = 0 }
+
+-- Document 02, (d): what the division of lp × net by the supply yields, the quotient, of up to 128 bits in two halves, and the remainder; supply 0
+-- is none. 'Quotient times supply plus remainder is the product, with the remainder below the supply' stands in the contract.
+unfoldable pub lpDivided : ℕ → ℕ → ℕ → LpDivided
+lpDivided lp net supply =
+    outcome ((eqb supply 0, ZeroTradingTokens) ∷ [])
+    noQuotient
+    (record { number = 0; quotient = u128Of (lp * net / supply); remainder = lp * net % supply })
 
 -- one token's part: supply 0 is none
 unfoldable pub lpPart : RoundDirection → ℕ → ℕ → ℕ → Answer

@@ -1,21 +1,35 @@
 // The constant product curve: x × y does not fall. x is the net of the token that goes in, y of the one that comes out.
 use answer::Answer;
 use answer::from_quotient;
-use divide::Divided;
-use divide::div_rem;
+use divide::div_rem_short;
+use divide::div_rem_wide;
 use math::ratio::mul_div_ceil;
 use math::ratio::mul_div_sum;
+use refusal::ACCEPTED;
 use refusal::PANIC;
 use refusal::ZERO_TRADING_TOKENS;
+use wide::U128;
+use wide::is_zero;
 use wide::widening_mul;
+use wide::wrapping_add;
 ghost use mathlib.Core.Path.{_≡_};
-ghost use Rattle.curve.specs.ConstantProduct.{swapBaseInputWithoutFees, swapBaseOutputWithoutFees, lpPart, lpTokensToTradingTokens};
-ghost use Rattle.curve.specs.Stages.{roundedAnswer, tokensOf};
+ghost use Prim.Native.Nat.{_+_, _*_, _<_};
+ghost use Rattle.wide.specs.Value.{value, u128Of};
+ghost use Rattle.refusal.specs.Refusal.{ZeroTradingTokens};
+ghost use Rattle.curve.specs.ConstantProduct.{swapBaseInputWithoutFees, swapBaseOutputWithoutFees, noQuotient, lpDivided, lpPart, lpTokensToTradingTokens};
+ghost use Rattle.curve.specs.Stages.{rounded, tokensOf};
 
 // LP tokens are a count of their own, never summed with token 0 or token 1.
 pub struct LpTokens(pub u64);
 
 pub struct TradingTokens(pub u64);
+
+// An LP amount's product with a net, by the supply: quotient and remainder; or none, its number and zeros.
+pub struct LpDivided {
+    pub number: u64,
+    pub quotient: U128,
+    pub remainder: u64,
+}
 
 // To round an LP amount's tokens down, or up where they are not 0.
 pub enum RoundDirection {
@@ -61,31 +75,64 @@ pub fn swap_base_output_without_fees(
     from_quotient(input, PANIC, PANIC)
 }
 
-// A quotient rounded: one more where there is a remainder and the quotient is not 0.
-fn round(divided: Divided, direction: RoundDirection) -> Answer
-    ensures { λ r. ⌜ r ≡ roundedAnswer direction (divided .quotient) (divided .remainder) ⌝ }
+// Supply 0: no quotient, with the number 4.
+fn undivided() -> LpDivided
+    ensures { λ r. ⌜ r ≡ noQuotient ZeroTradingTokens ⌝ }
 {
-    let quotient = divided.quotient;
-    let remainder = divided.remainder;
+    LpDivided {
+        number: ZERO_TRADING_TOKENS,
+        quotient: U128 { high: 0, low: 0 },
+        remainder: 0,
+    }
+}
+
+// lp × net by the supply, quotient and remainder, in one long division. Supply 0 is none. A product of 64 bits takes one machine division.
+pub fn lp_tokens_div_rem(lp: LpTokens, net: TradingTokens, supply: LpTokens) -> LpDivided
+    ensures { λ r. ⌜ (r ≡ lpDivided (lp .0) (net .0) (supply .0)) × (0 < supply .0 → (value (r .quotient) * supply .0 + r .remainder ≡ lp .0 * net .0) × (r .remainder < supply .0)) ⌝ }
+{
+    let whole = supply.0;
+    let product = widening_mul(lp.0, net.0);
+    if whole == 0 {
+        return undivided();
+    }
+    if product.high == 0 {
+        let parts = div_rem_short(product.low, whole);
+        return LpDivided {
+            number: ACCEPTED,
+            quotient: U128 {
+                high: 0,
+                low: parts.quotient,
+            },
+            remainder: parts.remainder,
+        };
+    }
+    let parts = div_rem_wide(product, whole);
+    let quotient = parts.quotient;
+    LpDivided {
+        number: ACCEPTED,
+        quotient,
+        remainder: parts.remainder,
+    }
+}
+
+// A quotient rounded: up, one more where there is a remainder and the quotient is not 0. Modulo 2^128, which no quotient of a product of two
+// u64 reaches.
+pub fn round_quotient(quotient: U128, remainder: u64, direction: RoundDirection) -> U128
+    ensures { λ r. ⌜ r ≡ u128Of (rounded direction (value quotient) remainder) ⌝ }
+{
     match direction {
-        RoundDirection::Floor => Answer::Amount(quotient),
+        RoundDirection::Floor => quotient,
         RoundDirection::Ceiling => {
-            if remainder == 0 {
-                return Answer::Amount(quotient);
+            if is_zero(quotient) {
+                return quotient;
             }
-            if quotient == 0 {
-                return Answer::Amount(quotient);
-            }
-            if quotient < u64::MAX {
-                Answer::Amount(quotient + 1)
-            } else {
-                Answer::Refused(PANIC)
-            }
+            let more = if remainder == 0 { 0 } else { 1 };
+            wrapping_add(quotient, U128 { high: 0, low: more })
         }
     }
 }
 
-// One token's part: lp × net / supply, in one long division.
+// One token's part: lp × net / supply, rounded.
 pub fn lp_tokens_to_one_token(
     lp: LpTokens,
     supply: LpTokens,
@@ -94,15 +141,16 @@ pub fn lp_tokens_to_one_token(
 ) -> Answer
     ensures { λ r. ⌜ r ≡ lpPart direction (lp .0) (supply .0) (net .0) ⌝ }
 {
-    let whole = supply.0;
-    let product = widening_mul(lp.0, net.0);
-    if product.high < whole {
-        return round(div_rem(product, whole), direction);
+    let parts = lp_tokens_div_rem(lp, net, supply);
+    let quotient = parts.quotient;
+    if parts.number != ACCEPTED {
+        return Answer::Refused(parts.number);
     }
-    if whole == 0 {
-        return Answer::Refused(ZERO_TRADING_TOKENS);
+    let amount = round_quotient(quotient, parts.remainder, direction);
+    if amount.high != 0 {
+        return Answer::Refused(PANIC);
     }
-    Answer::Refused(PANIC)
+    Answer::Amount(amount.low)
 }
 
 // Both tokens' parts.

@@ -2,7 +2,7 @@
 -- half of d; it is right, or too high by one or two, and the flags of the program say by which.
 use mathlib.Core.Path.{_≡_, sym, ap, _∙_, subst}
 use Prim.Native.Nat.{ℕ, zero, suc, _+_, _-_, _*_, _/_, _%_, _^_, _≤_, _<_}
-use native.Mathlib.Nat.{one-mul, zero-mul, mul-le-mul, mul-le-mul-right, div-add-mod', mod-lt, not-suc-le-zero, zero-lt-suc, div-lt-iff-lt-mul}
+use native.Mathlib.Nat.{one-mul, zero-mul, mul-le-mul, mul-le-mul-right, div-add-mod', not-suc-le-zero, zero-lt-suc, lt-of-mul-lt-mul-right}
 use native.Mathlib.Omega.{arith}
 use mathlib.Core.Logic.{⊎-elim}
 use Rattle.wide.specs.Steps.{Divides, Less}
@@ -29,53 +29,47 @@ pos-of-lt-mul : {n : ℕ} (q d : ℕ) → n < q * d → 0 < q
 pos-of-lt-mul {n} zero d h = absurd (not-suc-le-zero (subst (λ (x : ℕ). n < x) (zero-mul d) h))
 pos-of-lt-mul {n} (suc q) d h = zero-lt-suc q
 
--- the estimate, what is left of the number besides it, and what the lower half takes of that
-abbrev pub estimate : ℕ → ℕ → ℕ
-estimate h d = h / upper d
-
-abbrev pub rest : ℕ → ℕ → ℕ → ℕ
-rest h l d = h % upper d * 2 ^ 32 + l
+-- the estimate q leaves m of h: what is left of the number besides it, and what the lower half takes of that
+abbrev pub rest : ℕ → ℕ → ℕ
+rest m l = m * 2 ^ 32 + l
 
 abbrev pub taken : ℕ → ℕ → ℕ
-taken h d = estimate h d * lower d
+taken q d = q * lower d
 
-module _ (h l d : ℕ) (top : 2 ^ 63 ≤ d) (hh : h < d) (hl : l < 2 ^ 32) where
-  pub upper-pos : 0 < upper d
-  upper-pos = omega arith
+pub upper-pos : (d : ℕ) → 2 ^ 63 ≤ d → 0 < upper d
+upper-pos d top = omega arith
 
-  pub upper-rest-lt : h % upper d < upper d
-  upper-rest-lt = mod-lt h upper-pos
+module _ (h l d q m : ℕ) (top : 2 ^ 63 ≤ d) (hh : h < d) (hl : l < 2 ^ 32) (w : Divides h (upper d) q m) where
+  pub rest-lt : rest m l < d
+  rest-lt = omega (arith, w .less)
 
-  pub rest-lt : rest h l d < d
-  rest-lt = omega (arith, upper-rest-lt)
+  estimate-lt : q < 2 ^ 32 + 2
+  estimate-lt = lt-of-mul-lt-mul-right (upper d) (omega (arith, w .whole))
 
-  estimate-lt : h / upper d < 2 ^ 32 + 2
-  estimate-lt = div-lt-iff-lt-mul {k = upper d} {x = h} {y = 2 ^ 32 + 2} upper-pos .1 (omega arith)
-
-  pub taken-lt : taken h d < 2 ^ 64
-  taken-lt = omega (arith, mul-le-mul {n₁ = estimate h d} {m₁ = lower d} {n₂ = 2 ^ 32 + 1} {m₂ = 2 ^ 32 - 1} (omega (arith, estimate-lt)) (omega arith))
+  pub taken-lt : taken q d < 2 ^ 64
+  taken-lt = omega (arith, mul-le-mul {n₁ = q} {m₁ = lower d} {n₂ = 2 ^ 32 + 1} {m₂ = 2 ^ 32 - 1} (omega (arith, estimate-lt)) (omega arith))
 
   -- the number, by the estimate
-  same : estimate h d * d + rest h l d ≡ h * 2 ^ 32 + l + taken h d
-  same = omega (arith, by-halves (estimate h d) d, div-add-mod' h (upper d))
+  same : q * d + rest m l ≡ h * 2 ^ 32 + l + taken q d
+  same = omega (arith, by-halves q d, w .whole)
 
   -- the estimate is right
-  pub right : taken h d ≤ rest h l d → Divides (h * 2 ^ 32 + l) d (estimate h d) (rest h l d - taken h d)
+  pub right : taken q d ≤ rest m l → Divides (h * 2 ^ 32 + l) d (q) (rest m l - taken q d)
   right t = record { whole = omega (arith, same); less = omega (arith, rest-lt) }
 
   -- it is one too high
-  pub one-pos : rest h l d < taken h d → 0 < estimate h d
-  one-pos t = pos-of-lt-mul {n = 0} (estimate h d) d (omega (arith, same))
+  pub one-pos : rest m l < taken q d → 0 < q
+  one-pos t = pos-of-lt-mul {n = 0} (q) d (omega (arith, same))
 
-  pub one-high : rest h l d < taken h d → taken h d - rest h l d ≤ d → Divides (h * 2 ^ 32 + l) d (estimate h d - 1) (rest h l d + d - taken h d)
-  one-high t u = record { whole = omega (arith, same, once-less (estimate h d) d (one-pos t)); less = omega arith }
+  pub one-high : rest m l < taken q d → taken q d - rest m l ≤ d → Divides (h * 2 ^ 32 + l) d (q - 1) (rest m l + d - taken q d)
+  one-high t u = record { whole = omega (arith, same, once-less (q) d (one-pos t)); less = omega arith }
 
   -- it is two too high
-  pub two-pos : d < taken h d - rest h l d → 0 < estimate h d - 1
-  two-pos t = pos-of-lt-mul {n = 0} (estimate h d - 1) d (omega (arith, same, once-less (estimate h d) d (one-pos (omega arith))))
+  pub two-pos : d < taken q d - rest m l → 0 < q - 1
+  two-pos t = pos-of-lt-mul {n = 0} (q - 1) d (omega (arith, same, once-less (q) d (one-pos (omega arith))))
 
-  pub two-high : d < taken h d - rest h l d → Divides (h * 2 ^ 32 + l) d (estimate h d - 1 - 1) (rest h l d + d + d - taken h d)
-  two-high t = record { whole = omega (arith, same, once-less (estimate h d) d (one-pos (omega arith)), once-less (estimate h d - 1) d (two-pos t), taken-lt); less = omega arith }
+  pub two-high : d < taken q d - rest m l → Divides (h * 2 ^ 32 + l) d (q - 1 - 1) (rest m l + d + d - taken q d)
+  two-high t = record { whole = omega (arith, same, once-less (q) d (one-pos (omega arith)), once-less (q - 1) d (two-pos t), taken-lt); less = omega arith }
 
 -- a flag times d
 flag-none : {f : ℕ} (d : ℕ) → f ≡ 0 → f * d ≡ 0
@@ -118,59 +112,59 @@ said : {n d k x k′ x′ : ℕ} → k ≡ k′ → x′ ≡ x → Divides n d k
 said {n} {d} {k} {x} {k′} {x′} e f w = subst (λ (y : ℕ). Divides n d k′ y) (sym f) (subst (λ (y : ℕ). Divides n d y x) e w)
 
 module _
-    (h l d : ℕ) (top : 2 ^ 63 ≤ d) (hd : d < 2 ^ 64) (hh : h < d) (hl : l < 2 ^ 32)
-    (one left once below : ℕ) (f₁ : Less (rest h l d) (taken h d) one) (el : (left + taken h d) % 2 ^ 64 ≡ rest h l d) (hw : left < 2 ^ 64)
+    (h l d q m : ℕ) (top : 2 ^ 63 ≤ d) (hd : d < 2 ^ 64) (hh : h < d) (hl : l < 2 ^ 32) (w : Divides h (upper d) q m)
+    (one left once below : ℕ) (f₁ : Less (rest m l) (taken q d) one) (el : (left + taken q d) % 2 ^ 64 ≡ rest m l) (hw : left < 2 ^ 64)
     (eo : once ≡ (left + one * d) % 2 ^ 64) (f₂ : Less once d below) where
   -- the estimate, less what it is too high by, and what that leaves
   record Mended : Type 1 where
-    flags : one + (1 - below) ≤ estimate h d
-    divides : (x : ℕ) → x ≡ (once + (1 - below) * d) % 2 ^ 64 → Divides (h * 2 ^ 32 + l) d (estimate h d - one - (1 - below)) x
+    flags : one + (1 - below) ≤ q
+    divides : (x : ℕ) → x ≡ (once + (1 - below) * d) % 2 ^ 64 → Divides (h * 2 ^ 32 + l) d (q - one - (1 - below)) x
 
-  taken-fits : taken h d < 2 ^ 64
-  taken-fits = taken-lt h l d top hh hl
+  taken-fits : taken q d < 2 ^ 64
+  taken-fits = taken-lt h l d q m top hh hl w
 
   -- no more is added
   last : (x : ℕ) → below ≡ 1 → once < d → x ≡ (once + (1 - below) * d) % 2 ^ 64 → x ≡ once
   last x e b ex = omega (arith, flag-none {f = 1 - below} d (omega arith))
 
   -- the estimate is right: then `once` is below d
-  once-right : taken h d ≤ rest h l d → one ≡ 0 → once ≡ rest h l d - taken h d
-  once-right a e = omega (arith, not-wrapped (rest h l d) (taken h d) left el hw taken-fits a, flag-none d e)
+  once-right : taken q d ≤ rest m l → one ≡ 0 → once ≡ rest m l - taken q d
+  once-right a e = omega (arith, not-wrapped (rest m l) (taken q d) left el hw taken-fits a, flag-none d e)
 
-  none-off : taken h d ≤ rest h l d → one ≡ 0 → below ≡ 1 → once < d → Mended
+  none-off : taken q d ≤ rest m l → one ≡ 0 → below ≡ 1 → once < d → Mended
   none-off a e f b = record {
     flags = omega arith;
-    divides = λ x ex. said (omega arith) (last x f b ex ∙ once-right a e) (right h l d top hh hl a);
+    divides = λ x ex. said (omega arith) (last x f b ex ∙ once-right a e) (right h l d q m top hh hl w a);
   }
 
-  never : taken h d ≤ rest h l d → one ≡ 0 → d ≤ once → ⊥
-  never a e b = omega (arith, once-right a e, rest-lt h l d top hh hl)
+  never : taken q d ≤ rest m l → one ≡ 0 → d ≤ once → ⊥
+  never a e b = omega (arith, once-right a e, rest-lt h l d q m top hh hl w)
 
   -- it is too high: d was added once
-  module _ (a : rest h l d < taken h d) (e : one ≡ 1) where
+  module _ (a : rest m l < taken q d) (e : one ≡ 1) where
     added : once ≡ (left + d) % 2 ^ 64
     added = eo ∙ ap (λ (x : ℕ). (left + x) % 2 ^ 64) (flag-one d e)
 
-    high-by : left + taken h d ≡ rest h l d + 2 ^ 64
-    high-by = wrapped (rest h l d) (taken h d) left el hw taken-fits a
+    high-by : left + taken q d ≡ rest m l + 2 ^ 64
+    high-by = wrapped (rest m l) (taken q d) left el hw taken-fits a
 
     one-off : once < d → below ≡ 1 → Mended
     one-off b f =
-        let g = enough (rest h l d) (taken h d) left d once a taken-fits high-by hd added b in
+        let g = enough (rest m l) (taken q d) left d once a taken-fits high-by hd added b in
         record {
-          flags = omega (arith, one-pos h l d top hh hl a);
-          divides = λ x ex. said (omega arith) (last x f b ex ∙ g .1) (one-high h l d top hh hl a (g .0));
+          flags = omega (arith, one-pos h l d q m top hh hl w a);
+          divides = λ x ex. said (omega arith) (last x f b ex ∙ g .1) (one-high h l d q m top hh hl w a (g .0));
         }
 
     two-off : d ≤ once → below ≡ 0 → Mended
     two-off b f =
-        let g = too-few (rest h l d) (taken h d) left d once a taken-fits high-by hd added b in
+        let g = too-few (rest m l) (taken q d) left d once a taken-fits high-by hd added b in
         let more : (1 - below) * d ≡ d = flag-one {f = 1 - below} d (omega arith) in
         record {
-          flags = omega (arith, two-pos h l d top hh hl (g .0));
+          flags = omega (arith, two-pos h l d q m top hh hl w (g .0));
           divides = λ x ex. said (omega arith)
-              (once-more (rest h l d) (taken h d) d once x (g .0) (omega (arith, taken-fits)) hd (g .1) (ex ∙ ap (λ (y : ℕ). (once + y) % 2 ^ 64) more))
-              (two-high h l d top hh hl (g .0));
+              (once-more (rest m l) (taken q d) d once x (g .0) (omega (arith, taken-fits)) hd (g .1) (ex ∙ ap (λ (y : ℕ). (once + y) % 2 ^ 64) more))
+              (two-high h l d q m top hh hl w (g .0));
         }
 
   mended : Mended
@@ -181,9 +175,9 @@ module _
       f₁
 
   -- the flags are not more than the estimate
-  pub flags-le : one + (1 - below) ≤ estimate h d
+  pub flags-le : one + (1 - below) ≤ q
   flags-le = mended .flags
 
   -- and the last sum is what is left
-  pub flags-done : (x : ℕ) → x ≡ (once + (1 - below) * d) % 2 ^ 64 → Divides (h * 2 ^ 32 + l) d (estimate h d - one - (1 - below)) x
+  pub flags-done : (x : ℕ) → x ≡ (once + (1 - below) * d) % 2 ^ 64 → Divides (h * 2 ^ 32 + l) d (q - one - (1 - below)) x
   flags-done = mended .divides

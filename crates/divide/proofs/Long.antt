@@ -7,7 +7,8 @@ use native.Mathlib.Omega.{arith}
 use lib.Arith.{digits-div, digits-mod}
 use lib.Pow.{pow-pos, pow-add, shr-shr}
 use Rattle.divide.specs.declared.Divided.{Divided}
-use Rattle.divide.specs.Division.{divided}
+use Rattle.divide.specs.declared.DividedWide.{DividedWide}
+use Rattle.divide.specs.Division.{divided, dividedWide}
 use Rattle.wide.specs.Steps.{Divides}
 use Rattle.wide.proofs.Halves.{spread, shl-half}
 
@@ -92,6 +93,17 @@ module _ (N d P Q r : ℕ) (hd : 0 < d) (hP : 0 < P) (w : Divides (N * P) (d * P
       ∙ mul-div-cancel (N % d) hP
 
 -- ---- a quotient of two words: the high one first
+-- it fits one word where the high half is below the divisor
+pub halves-fit : (high low d : ℕ) → high < d → low < 2 ^ 64 → (high * 2 ^ 64 + low) / d < 2 ^ 64
+halves-fit high low d hh hl = div-lt-iff-lt-mul {k = d} {x = high * 2 ^ 64 + low} {y = 2 ^ 64} (omega arith) .1 (omega arith)
+
+pub low-divides :
+    (b l d : ℕ) {r : DividedWide} → b < d → l < 2 ^ 64 → r ≡ dividedWide (b * 2 ^ 64 + l) d → Divides (b * 2 ^ 64 + l) d (r .quotient .low) (r .remainder)
+low-divides b l d hb hl e =
+    let n = b * 2 ^ 64 + l in
+    subst (λ (r : DividedWide). Divides n d (r .quotient .low) (r .remainder)) (sym e)
+    (subst (λ (q : ℕ). Divides n d q (n % d)) (sym (mod-eq-of-lt (halves-fit b l d hb hl))) (divides n (omega arith)))
+
 pub wide-divides : (h l d a b q r : ℕ) → a * d + b ≡ h → Divides (b * 2 ^ 64 + l) d q r → Divides (h * 2 ^ 64 + l) d (a * 2 ^ 64 + q) r
 wide-divides h l d a b q r e w = record { whole = omega (arith, spread (2 ^ 64) d a q, w .whole); less = w .less }
 

@@ -18,6 +18,18 @@ pub struct DividedWide {
     pub remainder: u64,
 }
 
+// A u64 by a u64, in one machine division: what the quotient does not take is the remainder.
+pub fn div_rem_short(n: u64, d: u64) -> Divided
+    requires { ⌜ 0 < d ⌝ }
+    ensures { λ r. ⌜ r ≡ divided n d ⌝ }
+{
+    let quotient = n / d;
+    Divided {
+        quotient,
+        remainder: n - quotient * d,
+    }
+}
+
 // 1 where a is below b, and 0 elsewhere: a number, so that no branch hangs on it.
 fn less(a: u64, b: u64) -> u64
     ensures { λ r. ⌜ Less a b r ⌝ }
@@ -33,8 +45,9 @@ fn digit(high: u64, low: u64, d: u64) -> Divided
 {
     let upper = d >> 32;
     let lower = d % 0x1_0000_0000;
-    let estimate = high / upper;
-    let rest = high % upper * 0x1_0000_0000 + low;
+    let by_upper = div_rem_short(high, upper);
+    let estimate = by_upper.quotient;
+    let rest = by_upper.remainder * 0x1_0000_0000 + low;
     let taken = estimate * lower;
     let one = less(rest, taken);
     let left = std::num::wrapping_sub_u64(rest, taken);
@@ -62,10 +75,7 @@ pub fn div_rem(n: U128, d: u64) -> Divided
     let high = n.high;
     let low = n.low;
     if high == 0 {
-        return Divided {
-            quotient: low / d,
-            remainder: low % d,
-        };
+        return div_rem_short(low, d);
     }
     let shift = norm_shift(d);
     let divisor = d << shift;
@@ -79,38 +89,39 @@ pub fn div_rem(n: U128, d: u64) -> Divided
     }
 }
 
-// The quotient and the remainder, whatever the quotient's size: where it needs more than 64 bits the high half is divided first.
+// Whatever the quotient's size: where the high half is not below d it is divided first, and what it leaves takes its place before the low half.
+// It calls itself at most once. The compiler does not inline a function that calls itself, so that a caller's own short case stays short.
+fn long_division(high: u64, low: u64, d: u64) -> DividedWide
+    requires { ⌜ 0 < d ⌝ }
+    ensures { λ r. ⌜ r ≡ dividedWide (high * 2 ^ 64 + low) d ⌝ }
+{
+    if high < d {
+        let parts = div_rem(U128 { high, low }, d);
+        return DividedWide {
+            quotient: U128 {
+                high: 0,
+                low: parts.quotient,
+            },
+            remainder: parts.remainder,
+        };
+    }
+    let upper = div_rem_short(high, d);
+    let lower = long_division(upper.remainder, low, d);
+    DividedWide {
+        quotient: U128 {
+            high: upper.quotient,
+            low: lower.quotient.low,
+        },
+        remainder: lower.remainder,
+    }
+}
+
+// The quotient and the remainder, whatever the quotient's size.
 pub fn div_rem_wide(n: U128, d: u64) -> DividedWide
     requires { ⌜ 0 < d ⌝ }
     ensures { λ r. ⌜ r ≡ dividedWide (value n) d ⌝ }
 {
-    let high = n.high;
-    let low = n.low;
-    if high < d {
-        let whole = div_rem(n, d);
-        return DividedWide {
-            quotient: U128 {
-                high: 0,
-                low: whole.quotient,
-            },
-            remainder: whole.remainder,
-        };
-    }
-    let parts = div_rem(
-        U128 {
-            high: high % d,
-            low,
-        },
-        d,
-    );
-    let quotient = U128 {
-        high: high / d,
-        low: parts.quotient,
-    };
-    DividedWide {
-        quotient,
-        remainder: parts.remainder,
-    }
+    long_division(n.high, n.low, d)
 }
 
 // The first 32 bits after the point of a / b, which is below 1.
@@ -133,8 +144,9 @@ pub fn price_x32(a: u64, b: u64) -> U128
             low: a * 0x1_0000_0000 / b,
         };
     }
-    let whole = a / b;
-    let fraction = fraction_x32(a % b, b);
+    let parts = div_rem_short(a, b);
+    let whole = parts.quotient;
+    let fraction = fraction_x32(parts.remainder, b);
     U128 {
         high: whole >> 32,
         low: (whole << 32) + fraction,

@@ -3,7 +3,7 @@ use mathlib.Core.Bool.{cond}
 use mathlib.Core.Path.{_≡_, sym, ap, _∙_}
 use mathlib.Core.Logic.{⊎-elim}
 use Prim.Native.Nat.{ℕ, _+_, _-_, _*_, _/_, _%_, _^_, _≤_, _<_}
-use native.Mathlib.Nat.{div-lt-iff-lt-mul, le-div-iff-mul-le, eq-zero-or-pos, ne-of-gt, le-trans}
+use native.Mathlib.Nat.{le-div-iff-mul-le, eq-zero-or-pos, ne-of-gt, le-trans}
 use native.Mathlib.Omega.{arith}
 use lib.Dec.{ltb, eqb}
 use borrow.Author.Tests.{lt-ltb, le-ltb, eq-eqb, ne-eqb}
@@ -31,11 +31,7 @@ module _ (n d : ℕ) (h : 0 < d) where
   unfolding partsOf
   parts-past p = simp (ne-eqb d 0 (ne-of-gt h), le-ltb (n / d) (2 ^ 64) p)
 
--- a quotient of two halves fits a u64 where the high half is below the divisor
-pub halves-fit : (high low d : ℕ) → high < d → low < 2 ^ 64 → (high * 2 ^ 64 + low) / d < 2 ^ 64
-halves-fit high low d hh hl = div-lt-iff-lt-mul {k = d} {x = high * 2 ^ 64 + low} {y = 2 ^ 64} (omega arith) .1 (omega arith)
-
--- and nowhere else
+-- a quotient of two halves is past u64 where the high half is not below the divisor
 pub halves-past : (high low d : ℕ) → 0 < d → d ≤ high → 2 ^ 64 ≤ (high * 2 ^ 64 + low) / d
 halves-past high low d hd hh = le-div-iff-mul-le {k = d} {x = 2 ^ 64} {y = high * 2 ^ 64 + low} hd .1 (omega arith)
 

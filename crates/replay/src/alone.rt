@@ -16,6 +16,7 @@ use curve::constant_product::LpTokens;
 use curve::constant_product::RoundDirection;
 use curve::constant_product::TradingTokenResult;
 use curve::constant_product::TradingTokens;
+use curve::constant_product::lp_tokens_div_rem;
 use curve::constant_product::lp_tokens_to_trading_tokens;
 use curve::constant_product::swap_base_input_without_fees;
 use curve::constant_product::swap_base_output_without_fees;
@@ -81,6 +82,24 @@ pub(crate) fn lp_tokens(row: &[u64; ROW_NUMBERS]) -> bool {
         }
         TradingTokenResult::Refused(number) => same(row, 7, number, 0, 0, 0, 0),
     }
+}
+
+// Number, the quotient's halves and the remainder.
+pub(crate) fn lp_division(row: &[u64; ROW_NUMBERS]) -> bool {
+    let lp = LpTokens(nth(row, 2));
+    let net = TradingTokens(nth(row, 3));
+    let supply = LpTokens(nth(row, 4));
+    let parts = lp_tokens_div_rem(lp, net, supply);
+    let quotient = parts.quotient;
+    same(
+        row,
+        5,
+        parts.number,
+        quotient.high,
+        quotient.low,
+        parts.remainder,
+        0,
+    )
 }
 
 // The nets of a pool of which the other numbers are 0.

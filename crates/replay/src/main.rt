@@ -21,6 +21,7 @@ fn agrees(row: &[u64; ROW_NUMBERS]) -> bool {
         2..=7 => on_pool::call(row),
         10..=21 => alone::amount(row),
         22 => alone::lp_tokens(row),
+        24 => alone::lp_division(row),
         31 => alone::nets(row),
         32 => alone::prices(row),
         33 => alone::booking(row),

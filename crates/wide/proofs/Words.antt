@@ -1,12 +1,14 @@
 -- Numbers of 128 bits as two words, a word being below 2 ^ 64: sums with a carry, and products with a word.
-use mathlib.Core.Path.{_≡_, sym, ap, _∙_, subst}
+use mathlib.Core.Path.{_≡_, refl, sym, ap, _∙_, subst}
+use mathlib.Core.Bool.{Bool, true, false, _&&_}
 use mathlib.Core.Logic.{⊎-elim}
 use Prim.Native.Nat.{ℕ, _+_, _*_, _/_, _%_, _^_, _≤_, _<_}
-use native.Mathlib.Nat.{add-comm, add-mul-div-right, add-mul-mod-self-right, mod-add-mod, mod-eq-of-lt, mul-le-mul-right, le-trans, le-add-right}
+use native.Mathlib.Nat.{add-comm, add-mul-div-right, add-mul-mod-self-right, mod-add-mod, mod-eq-of-lt, mul-le-mul-right, le-trans, le-add-right, div-lt-iff-lt-mul, pos-of-ne-zero}
 use native.Mathlib.Omega.{arith}
 use lib.Arith.{digits-div, digits-mod, digits-lt, mod-mul}
 use lib.Pow.{pow-pos}
-use borrow.Author.Tests.{lt-ltb, le-ltb}
+use lib.Dec.{eqb}
+use borrow.Author.Tests.{lt-ltb, le-ltb, eqb-true, eqb-false, eq-eqb, ne-eqb}
 use Rattle.wide.specs.declared.U128.{U128}
 use Rattle.wide.specs.declared.Product.the-variants.{Fits, Past}
 use Rattle.wide.specs.Value.{value, u128Of, productOf}
@@ -32,6 +34,31 @@ halves-lt h l hh hl = digits-lt {q = h} {m = 2 ^ 64} {r = l} {c = 2 ^ 64} hh hl
 -- a high half of 0
 pub low-only : (h l : ℕ) → h ≡ 0 → h * 2 ^ 64 + l ≡ l
 low-only h l e = omega arith
+
+-- a number whose high half is 0 is its low half, and else it is past a word
+module _ (n : ℕ) {a : U128} (e : a ≡ u128Of n) (fits : n < 2 ^ 64 * 2 ^ 64) where
+  high-is : a .high ≡ n / 2 ^ 64
+  high-is = ap (λ (x : U128). x .high) e ∙ mod-eq-of-lt (div-lt-iff-lt-mul {k = 2 ^ 64} {x = n} {y = 2 ^ 64} (pow-pos 64) .1 fits)
+
+  pub one-word : a .high ≡ 0 → (a .low ≡ n) × (n < 2 ^ 64)
+  one-word h =
+      let none : n / 2 ^ 64 ≡ 0 = sym high-is ∙ h in
+      let low : n % 2 ^ 64 ≡ n = omega arith in
+      (ap (λ (x : U128). x .low) e ∙ low, omega arith)
+
+  pub past-word : (a .high ≡ 0 → ⊥) → 2 ^ 64 ≤ n
+  past-word h =
+      let some : 0 < n / 2 ^ 64 = pos-of-ne-zero (λ (z : n / 2 ^ 64 ≡ 0). h (high-is ∙ z)) in
+      omega arith
+
+-- a number is 0 where both halves are
+pub zero-by-halves : (h l : ℕ) → eqb h 0 && eqb l 0 ≡ eqb (h * 2 ^ 64 + l) 0
+zero-by-halves h l = go (eqb h 0) refl (eqb l 0) refl
+  where
+    go : (a : Bool) → eqb h 0 ≡ a → (b : Bool) → eqb l 0 ≡ b → a && b ≡ eqb (h * 2 ^ 64 + l) 0
+    go true e true f = sym (eq-eqb (h * 2 ^ 64 + l) 0 (omega (arith, eqb-true h 0 e, eqb-true l 0 f)))
+    go true e false f = sym (ne-eqb (h * 2 ^ 64 + l) 0 (λ (z : h * 2 ^ 64 + l ≡ 0). eqb-false l 0 f (omega arith)))
+    go false e b f = sym (ne-eqb (h * 2 ^ 64 + l) 0 (λ (z : h * 2 ^ 64 + l ≡ 0). eqb-false h 0 e (omega arith)))
 
 -- ---- a sum
 

@@ -1,6 +1,7 @@
 // What `u128` does for the Rust, on a number of 128 bits as two u64 halves: products and sums. Quotients are crate `divide`.
 ghost use mathlib.Core.Path.{_≡_};
 ghost use Prim.Native.Nat.{_+_, _*_};
+ghost use lib.Dec.{eqb};
 ghost use Rattle.wide.specs.Value.{value, u128Of, productOf};
 
 pub struct U128 {
@@ -12,6 +13,13 @@ pub struct U128 {
 pub enum Product {
     Fits(U128),
     Past,
+}
+
+// Whether the number is 0.
+pub fn is_zero(n: U128) -> bool
+    ensures { λ r. ⌜ r ≡ eqb (value n) 0 ⌝ }
+{
+    (n.high == 0) & (n.low == 0)
 }
 
 // The whole product, by its four products of 32-bit halves. The low half is summed apart from the high one: in this form the compiler

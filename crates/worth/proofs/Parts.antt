@@ -1,121 +1,119 @@
--- Both tokens' parts, which are to be some: by long divisions, and of products of 64 bits.
+-- Both tokens' parts, which are to be some: what the two divisions say of the tests.
 -- Assumes nothing.
-use mathlib.Core.Path.{_≡_, refl, sym, ap, subst, _∙_}
-use mathlib.Core.Bool.{Bool, true, false, cond, not, _&&_, _||_}
-use mathlib.Core.List.{[], _∷_}
-use Prim.Native.Nat.{ℕ, _+_, _*_, _/_, _%_, _^_, _≤_, _<_}
-use native.Mathlib.Nat.{div-add-mod', div-le-self, le-div-iff-mul-le, mod-lt, mul-le-mul-left}
+use mathlib.Core.Path.{_≡_, refl, sym, ap, _∙_}
+use mathlib.Core.Bool.{Bool, true, false, not, _||_}
+use mathlib.Core.Logic.{⊎-elim, _⊎_}
+use Prim.Native.Nat.{ℕ, _*_, _/_, _^_, _≤_, _<_}
+use native.Mathlib.Nat.{eq-zero-or-pos}
 use native.Mathlib.Omega.{arith}
-use lib.Dec.{eqb, leb}
-use borrow.Author.Tests.{ltb-true, le-ltb, leb-true, ne-eqb, eqb-false}
+use lib.Dec.{eqb}
+use borrow.Author.Tests.{eqb-true, eqb-false, eq-eqb}
 use Rattle.refusal.specs.Refusal.{ZeroTradingTokens, Panic}
-use Rattle.refusal.specs.Tests.{U64, past, outcome}
+use Rattle.refusal.proofs.Stops.{turns, outcome-at, outcome-all}
 use Rattle.wide.specs.declared.U128.{U128}
-use Rattle.wide.specs.Value.{value}
-use Rattle.divide.specs.Division.{divided}
-use Rattle.answer.specs.declared.Answer.the-variants as A
+use Rattle.wide.specs.Value.{value, u128Of}
+use Rattle.curve.specs.declared.constant_product.LpDivided.{LpDivided}
 use Rattle.curve.specs.declared.constant_product.RoundDirection.{RoundDirection}
-use Rattle.curve.specs.declared.constant_product.RoundDirection.the-variants.{Floor, Ceiling}
 use Rattle.curve.specs.declared.constant_product.TradingTokenResult.the-variants as T
-use Rattle.curve.specs.ConstantProduct.{lpAmount, lpPart, tokens}
-use Rattle.curve.specs.Stages.{rounded, roundedAnswer}
-use Rattle.curve.proofs.LpTokens.{part-fits}
+use Rattle.curve.specs.ConstantProduct.{noQuotient, lpAmount, tokens}
+use Rattle.curve.specs.Stages.{rounded}
+use Rattle.curve.proofs.LpTokens.{Promised, none-is, amount-zero, amount-some, amount-fits, amount-past}
 use Rattle.worth.specs.Worth.{amountTests, tokenAmounts}
-use Rattle.worth.specs.Stages.{isNone, someTokens, raiseOf}
 
--- an amount past u64 is not 0
-past-some : (n : ℕ) → past n ≡ true → eqb n 0 ≡ false
-past-some n e = ne-eqb n 0 (omega (arith, ltb-true U64 n e))
+-- a test of two high halves
+pub some-high : (h0 h1 : ℕ) → not (eqb h0 0) || not (eqb h1 0) ≡ true → h0 ≡ 0 → h1 ≡ 0 → ⊥
+some-high h0 h1 t z0 z1 = eqb-false 0 0 (sym (rw (eq-eqb h0 0 z0, eq-eqb h1 0 z1) at t)) refl
 
--- supply 0 is the same for both parts; an amount of 0 in the second comes before the first's being past u64
-some-parts :
-    (none past0 past1 : Bool) (a0 a1 : ℕ) → (past0 ≡ true → eqb a0 0 ≡ false) → (past1 ≡ true → eqb a1 0 ≡ false)
-    → someTokens
-    (outcome ((none, ZeroTradingTokens) ∷ (past0, Panic) ∷ []) A.Refused (A.Amount a0))
-    (outcome ((none, ZeroTradingTokens) ∷ (past1, Panic) ∷ []) A.Refused (A.Amount a1))
-    ≡ outcome
-    ((none, ZeroTradingTokens) ∷ (eqb a0 0, ZeroTradingTokens) ∷ (eqb a1 0, ZeroTradingTokens) ∷ (past0, Panic) ∷ (past1, Panic) ∷ [])
-    T.Refused
-    (T.Amounts (tokens a0) (tokens a1))
-unfolding outcome someTokens isNone
-some-parts true past0 past1 a0 a1 h0 h1 = refl
-some-parts false true true a0 a1 h0 h1 = rw (h0 refl, h1 refl)
-some-parts false true false a0 a1 h0 h1 = rw (h0 refl)
-some-parts false false true a0 a1 h0 h1 = rw (h1 refl)
-some-parts false false false a0 a1 h0 h1 = refl
-
-pub some-tokens :
-    (direction : RoundDirection) (lp supply n0 n1 : ℕ)
-    → someTokens (lpPart direction lp supply n0) (lpPart direction lp supply n1) ≡ tokenAmounts direction lp supply n0 n1
-unfolding lpPart tokenAmounts amountTests
-some-tokens direction lp supply n0 n1 =
-    let a0 = lpAmount direction lp supply n0 in
-    let a1 = lpAmount direction lp supply n1 in
-    some-parts (eqb supply 0) (past a0) (past a1) a0 a1 (past-some a0) (past-some a1)
-
--- ---- of products of 64 bits
--- a quotient that is not 0 is raised by what its remainder adds
-pub raised : (direction : RoundDirection) (q r : ℕ) → 0 < q → q + raiseOf direction r ≡ rounded direction q r
-unfolding rounded raiseOf
-raised Floor q r h = omega arith
-raised Ceiling q r h = rw (ne-eqb q 0 (omega arith)) (go (eqb r 0))
+pub no-high : (h0 h1 : ℕ) → not (eqb h0 0) || not (eqb h1 0) ≡ false → (h0 ≡ 0) × (h1 ≡ 0)
+no-high h0 h1 = go (eqb h0 0) refl (eqb h1 0) refl
   where
-    go : (b : Bool) → q + cond b 0 1 ≡ cond (b || false) q (q + 1)
-    go true = omega arith
-    go false = refl
+    go : (a : Bool) → eqb h0 0 ≡ a → (b : Bool) → eqb h1 0 ≡ b → not a || not b ≡ false → (h0 ≡ 0) × (h1 ≡ 0)
+    go true e true f t = (eqb-true h0 0 e, eqb-true h1 0 f)
+    go true e false f t = absurd (eqb-false 0 0 t refl)
+    go false e b f t = absurd (eqb-false 0 0 t refl)
 
-rounded-some : (direction : RoundDirection) (q r : ℕ) → 0 < q → eqb (rounded direction q r) 0 ≡ false
-rounded-some direction q r h = ne-eqb (rounded direction q r) 0 (omega (arith, raised direction q r h))
+-- a quotient that is not 0 is of a supply
+supply-of : (lp net supply : ℕ) {r : LpDivided} → Promised lp net supply r → eqb (value (r .quotient)) 0 ≡ false → 0 < supply
+supply-of lp net supply p e =
+    ⊎-elim
+    (λ (z : supply ≡ 0). absurd (eqb-false _ _ e (ap (λ (x : LpDivided). value (x .quotient)) (none-is lp net supply p z))))
+    (λ (h : 0 < supply). h)
+    (eq-zero-or-pos supply)
 
--- a remainder is of a divisor of 2 or more, so the quotient has room for the 1
-pub raise-fits : (direction : RoundDirection) (n d : ℕ) → 0 < d → n < 2 ^ 64 → n / d + raiseOf direction (n % d) < 2 ^ 64
-unfolding raiseOf
-raise-fits Floor n d hd fits = omega (arith, div-le-self n d)
-raise-fits Ceiling n d hd fits = go (eqb (n % d) 0) refl
-  where
-    go : (b : Bool) → eqb (n % d) 0 ≡ b → n / d + cond b 0 1 < 2 ^ 64
-    go true e = omega (arith, div-le-self n d)
-    go false e =
-        let some : 0 < n % d = omega (arith, eqb-false (n % d) 0 e) in
-        let two : 2 ≤ d = omega (arith, mod-lt n hd) in
-        omega (arith, mul-le-mul-left (n / d) two, div-add-mod' n d)
+module _ (direction : RoundDirection) (lp supply n0 n1 : ℕ) where
+  -- ---- the tests, in their order
+  stops-none : supply ≡ 0 → T.Refused ZeroTradingTokens ≡ tokenAmounts direction lp supply n0 n1
+  unfolding tokenAmounts amountTests
+  stops-none e = outcome-at 0 _ _ _ (omega (arith, turns))
 
--- a divisor that is not 0 nor above the product
-pub some-part : (n d : ℕ) → not (eqb d 0) && leb d n ≡ true → (0 < d) × (d ≤ n)
-some-part n d = go (eqb d 0) refl (leb d n) refl
-  where
-    go : (zero : Bool) → eqb d 0 ≡ zero → (le : Bool) → leb d n ≡ le → not zero && le ≡ true → (0 < d) × (d ≤ n)
-    go true e le f g = absurd (omega (arith, ltb-true 1 0 g))
-    go false e true f g = (omega (arith, eqb-false d 0 e), leb-true d n f)
-    go false e false f g = absurd (omega (arith, ltb-true 1 0 g))
+  stops-zero0 : 0 < supply → lpAmount direction lp supply n0 ≡ 0 → T.Refused ZeroTradingTokens ≡ tokenAmounts direction lp supply n0 n1
+  unfolding tokenAmounts amountTests
+  stops-zero0 h e = outcome-at 1 _ _ _ (omega (arith, turns))
 
--- a product that is not below the divisor has a quotient that is not 0
-pub quotient-some : (n d : ℕ) → 0 < d → d ≤ n → 0 < n / d
-quotient-some n d hd le = le-div-iff-mul-le {k = d} {x = 1} {y = n} hd .1 (omega arith)
+  module _ (h : 0 < supply) (some0 : 0 < lpAmount direction lp supply n0) where
+    stops-zero1 : lpAmount direction lp supply n1 ≡ 0 → T.Refused ZeroTradingTokens ≡ tokenAmounts direction lp supply n0 n1
+    unfolding tokenAmounts amountTests
+    stops-zero1 e = outcome-at 2 _ _ _ (omega (arith, turns))
 
--- two parts that are some
-pub both-some :
-    (direction : RoundDirection) (q0 r0 q1 r1 : ℕ) → 0 < q0 → 0 < q1
-    → T.Amounts (tokens (rounded direction q0 r0)) (tokens (rounded direction q1 r1))
-    ≡ someTokens (A.Amount (rounded direction q0 r0)) (A.Amount (rounded direction q1 r1))
-unfolding someTokens isNone
-both-some direction q0 r0 q1 r1 h k = rw (rounded-some direction q0 r0 h, rounded-some direction q1 r1 k)
+    module _ (some1 : 0 < lpAmount direction lp supply n1) where
+      stops-past0 : 2 ^ 64 ≤ lpAmount direction lp supply n0 → T.Refused Panic ≡ tokenAmounts direction lp supply n0 n1
+      unfolding tokenAmounts amountTests
+      stops-past0 l = outcome-at 3 _ _ _ (omega (arith, turns))
 
--- a short product's part is what a long division gives
-module _ (lp supply net : ℕ) (direction : RoundDirection) (n : U128) (product : value n ≡ lp * net) where
-  rounded-fits : n .low < 2 ^ 64 → 0 < supply → supply ≤ n .low → past (rounded direction (n .low / supply) (n .low % supply)) ≡ false
-  rounded-fits l h k =
-      subst (λ (x : ℕ). past x ≡ false) (raised direction (n .low / supply) (n .low % supply) (quotient-some (n .low) supply h k))
-      (not-past (raise-fits direction (n .low) supply h l))
-    where
-      not-past : {x : ℕ} → x < 2 ^ 64 → past x ≡ false
-      not-past {x} b = le-ltb U64 x (omega arith)
+      stops-past1 : lpAmount direction lp supply n0 < 2 ^ 64 → 2 ^ 64 ≤ lpAmount direction lp supply n1 → T.Refused Panic ≡ tokenAmounts direction lp supply n0 n1
+      unfolding tokenAmounts amountTests
+      stops-past1 f l = outcome-at 4 _ _ _ (omega (arith, turns))
 
-  pub short-is :
-      n .low < 2 ^ 64 → n .high ≡ 0 → (0 < supply) × (supply ≤ n .low)
-      → A.Amount (rounded direction (n .low / supply) (n .low % supply)) ≡ lpPart direction lp supply net
-  unfolding roundedAnswer outcome
-  short-is l short some =
-      let low-is-all : n .low ≡ value n = omega arith in
-      sym (rw (rounded-fits l (some .0) (some .1)))
-      ∙ part-fits lp supply net direction n product l (rw short (some .0)) (ap (λ (k : ℕ). divided k supply) low-is-all)
+      passes :
+          lpAmount direction lp supply n0 < 2 ^ 64 → lpAmount direction lp supply n1 < 2 ^ 64
+          → T.Amounts (tokens (lpAmount direction lp supply n0)) (tokens (lpAmount direction lp supply n1)) ≡ tokenAmounts direction lp supply n0 n1
+      unfolding tokenAmounts amountTests
+      passes f g = outcome-all _ _ _ (omega (arith, turns))
+
+  -- ---- read off the divisions
+  -- two rounded quotients that are some: one of them is past u64, or both are amounts
+  pub record Parted (a0 a1 : U128) : Type 0 where
+    pub past : (a0 .high ≡ 0 → a1 .high ≡ 0 → ⊥) → T.Refused Panic ≡ tokenAmounts direction lp supply n0 n1
+    pub both : a0 .high ≡ 0 → a1 .high ≡ 0 → T.Amounts (tokens (a0 .low)) (tokens (a1 .low)) ≡ tokenAmounts direction lp supply n0 n1
+
+  module _ {r0 : LpDivided} (p0 : Promised lp n0 supply r0) where
+    pub none0 : eqb (value (r0 .quotient)) 0 ≡ true → T.Refused ZeroTradingTokens ≡ tokenAmounts direction lp supply n0 n1
+    none0 e =
+        ⊎-elim stops-none
+        (λ (h : 0 < supply). stops-zero0 h (amount-zero lp supply n0 direction p0 h e))
+        (eq-zero-or-pos supply)
+
+    module _ (s0 : eqb (value (r0 .quotient)) 0 ≡ false) {r1 : LpDivided} (p1 : Promised lp n1 supply r1) where
+      some-supply : 0 < supply
+      some-supply = supply-of lp n0 supply p0 s0
+
+      first-some : 0 < lpAmount direction lp supply n0
+      first-some = amount-some lp supply n0 direction p0 some-supply s0
+
+      pub none1 : eqb (value (r1 .quotient)) 0 ≡ true → T.Refused ZeroTradingTokens ≡ tokenAmounts direction lp supply n0 n1
+      none1 e = stops-zero1 some-supply first-some (amount-zero lp supply n1 direction p1 some-supply e)
+
+      module _
+          (s1 : eqb (value (r1 .quotient)) 0 ≡ false) (hl : lp < 2 ^ 64) (h0 : n0 < 2 ^ 64) (h1 : n1 < 2 ^ 64)
+          {a0 a1 : U128} (e0 : a0 ≡ u128Of (rounded direction (value (r0 .quotient)) (r0 .remainder)))
+          (e1 : a1 ≡ u128Of (rounded direction (value (r1 .quotient)) (r1 .remainder))) where
+        second-some : 0 < lpAmount direction lp supply n1
+        second-some = amount-some lp supply n1 direction p1 some-supply s1
+
+        fits0 : a0 .high ≡ 0 → (a0 .low ≡ lpAmount direction lp supply n0) × (lpAmount direction lp supply n0 < 2 ^ 64)
+        fits0 z = amount-fits lp supply n0 direction p0 some-supply hl h0 e0 z
+
+        fits1 : a1 .high ≡ 0 → (a1 .low ≡ lpAmount direction lp supply n1) × (lpAmount direction lp supply n1 < 2 ^ 64)
+        fits1 z = amount-fits lp supply n1 direction p1 some-supply hl h1 e1 z
+
+        pub parted : Parted a0 a1
+        parted = record {
+          past = λ f.
+              ⊎-elim
+              (λ (z : a0 .high ≡ 0). stops-past1 some-supply first-some second-some (fits0 z .1) (amount-past lp supply n1 direction p1 some-supply hl h1 e1 (f z)))
+              (λ (l : 0 < a0 .high). stops-past0 some-supply first-some second-some (amount-past lp supply n0 direction p0 some-supply hl h0 e0 (λ (z : a0 .high ≡ 0). omega arith)))
+              (eq-zero-or-pos (a0 .high));
+          both = λ z0 z1.
+              (λ i. T.Amounts (tokens (fits0 z0 .0 i)) (tokens (fits1 z1 .0 i)))
+              ∙ passes some-supply first-some second-some (fits0 z0 .1) (fits1 z1 .1);
+        }

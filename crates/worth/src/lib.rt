@@ -1,23 +1,18 @@
 // An LP amount's worth in both tokens, for deposits and withdrawals (document 01, 'Deposit' and 'Withdrawal').
 use accounting::Books;
 use accounting::Nets;
-use answer::Answer;
 use curve::constant_product::LpTokens;
 use curve::constant_product::RoundDirection;
 use curve::constant_product::TradingTokenResult;
 use curve::constant_product::TradingTokens;
-use curve::constant_product::both;
-use curve::constant_product::lp_tokens_to_one_token;
+use curve::constant_product::lp_tokens_div_rem;
+use curve::constant_product::round_quotient;
 use refusal::ACCEPTED;
+use refusal::PANIC;
 use refusal::ZERO_TRADING_TOKENS;
-use wide::widening_mul;
-ghost use mathlib.Core.Bool.{not, _&&_};
+use wide::is_zero;
 ghost use mathlib.Core.Path.{_≡_};
-ghost use Prim.Native.Nat.{_/_, _%_, _≤_, _<_};
-ghost use lib.Dec.{eqb, leb};
-ghost use Rattle.curve.specs.Stages.{rounded};
 ghost use Rattle.worth.specs.Worth.{tokenAmounts, rounding as roundingOf, refusedWorth, worthOf};
-ghost use Rattle.worth.specs.Stages.{isNone, someTokens, raiseOf};
 
 // The nets, and each token's part of them; or a refusal's number with zeros.
 pub struct Worth {
@@ -28,80 +23,8 @@ pub struct Worth {
     pub amount1: TradingTokens,
 }
 
-// None, or an amount of 0.
-fn is_none(answer: Answer) -> bool
-    ensures { λ r. ⌜ r ≡ isNone answer ⌝ }
-{
-    match answer {
-        Answer::Amount(amount) => amount == 0,
-        Answer::Refused(number) => number == ZERO_TRADING_TOKENS,
-    }
-}
-
-// None or an amount 0, 4; an amount past u64, 11; else both.
-fn some_tokens(amount0: Answer, amount1: Answer) -> TradingTokenResult
-    ensures { λ r. ⌜ r ≡ someTokens amount0 amount1 ⌝ }
-{
-    if is_none(amount0) {
-        return TradingTokenResult::Refused(ZERO_TRADING_TOKENS);
-    }
-    if is_none(amount1) {
-        return TradingTokenResult::Refused(ZERO_TRADING_TOKENS);
-    }
-    both(amount0, amount1)
-}
-
-// Both tokens' parts of any products, refusals too, by the curve's answers.
-fn long_amounts(
-    lp: LpTokens,
-    supply: LpTokens,
-    net0: TradingTokens,
-    net1: TradingTokens,
-    direction: RoundDirection,
-) -> TradingTokenResult
-    ensures { λ r. ⌜ r ≡ tokenAmounts direction (lp .0) (supply .0) (net0 .0) (net1 .0) ⌝ }
-{
-    let amount0 = lp_tokens_to_one_token(lp, supply, net0, direction);
-    let amount1 = lp_tokens_to_one_token(lp, supply, net1, direction);
-    some_tokens(amount0, amount1)
-}
-
-// What rounding adds to a quotient that is not 0: 1 where it is up and there is a remainder.
-fn raise(remainder: u64, direction: RoundDirection) -> u64
-    ensures { λ r. ⌜ r ≡ raiseOf direction remainder ⌝ }
-{
-    match direction {
-        RoundDirection::Floor => 0,
-        RoundDirection::Ceiling => {
-            if remainder == 0 {
-                return 0;
-            }
-            1
-        }
-    }
-}
-
-// Whether a product's part is some: the quotient is not 0.
-fn is_some(product: u64, whole: u64) -> bool
-    ensures { λ r. ⌜ r ≡ not (eqb whole 0) && leb whole product ⌝ }
-{
-    if whole == 0 {
-        return false;
-    }
-    whole <= product
-}
-
-// A product of 64 bits divided and rounded, in one machine division. With a remainder the divisor is above 1, so that no part is past u64.
-fn short_part(product: u64, whole: u64, direction: RoundDirection) -> u64
-    requires { ⌜ (0 < whole) × (whole ≤ product) ⌝ }
-    ensures { λ r. ⌜ r ≡ rounded direction (product / whole) (product % whole) ⌝ }
-{
-    product / whole + raise(product % whole, direction)
-}
-
-// Both tokens' parts of an LP amount: none or an amount 0, 4; an amount past u64, 11. Short products first, and only where both parts are
-// some: these go through no answer in memory. The high halves are tested by themselves: whether they are 0 seldom
-// changes from call to call, so that the processor foresees it.
+// Both tokens' parts of an LP amount: none or an amount 0, 4; an amount past u64, 11. An amount is 0 exactly where its quotient is; where there is
+// none (supply 0) the quotient is 0 too.
 pub fn token_amounts(
     lp: LpTokens,
     supply: LpTokens,
@@ -111,25 +34,22 @@ pub fn token_amounts(
 ) -> TradingTokenResult
     ensures { λ r. ⌜ r ≡ tokenAmounts direction (lp .0) (supply .0) (net0 .0) (net1 .0) ⌝ }
 {
-    let whole = supply.0;
-    let product0 = widening_mul(lp.0, net0.0);
-    let product1 = widening_mul(lp.0, net1.0);
-    let low0 = product0.low;
-    let low1 = product1.low;
-    if product0.high != 0 {
-        return long_amounts(lp, supply, net0, net1, direction);
+    let parts0 = lp_tokens_div_rem(lp, net0, supply);
+    let quotient0 = parts0.quotient;
+    if is_zero(quotient0) {
+        return TradingTokenResult::Refused(ZERO_TRADING_TOKENS);
     }
-    if product1.high != 0 {
-        return long_amounts(lp, supply, net0, net1, direction);
+    let amount0 = round_quotient(quotient0, parts0.remainder, direction);
+    let parts1 = lp_tokens_div_rem(lp, net1, supply);
+    let quotient1 = parts1.quotient;
+    if is_zero(quotient1) {
+        return TradingTokenResult::Refused(ZERO_TRADING_TOKENS);
     }
-    if is_some(low0, whole) {
-        if is_some(low1, whole) {
-            let amount0 = short_part(low0, whole, direction);
-            let amount1 = short_part(low1, whole, direction);
-            return TradingTokenResult::Amounts(TradingTokens(amount0), TradingTokens(amount1));
-        }
+    let amount1 = round_quotient(quotient1, parts1.remainder, direction);
+    if (amount0.high != 0) | (amount1.high != 0) {
+        return TradingTokenResult::Refused(PANIC);
     }
-    long_amounts(lp, supply, net0, net1, direction)
+    TradingTokenResult::Amounts(TradingTokens(amount0.low), TradingTokens(amount1.low))
 }
 
 // Up for what is paid in, down for what is paid out.

@@ -1,8 +1,9 @@
 //! Each bound of the rules at the last number that passes and at the first that doesn't, and places
-//! where the order of two steps decides. Each row says its number, some the fees or charges too, and
-//! stands once more with the tokens exchanged.
+//! where the order of two steps decides. Each row says its number, some the fees, charges or results too,
+//! and stands once more with the tokens exchanged.
 
 mod charges;
+mod division;
 
 use crate::left::LeftCounts;
 use crate::verdict::{verdict, Side};
@@ -59,8 +60,8 @@ fn bounds() -> Vec<Bound> {
         lp_tokens(),
         bookings(),
     ];
-    let charged = charges::bounds();
-    named.into_iter().flatten().chain(charged).flat_map(Bound::with_mirror).collect()
+    let requested = charges::bounds().into_iter().chain(division::bounds());
+    named.into_iter().flatten().chain(requested).flat_map(Bound::with_mirror).collect()
 }
 
 impl Bound {

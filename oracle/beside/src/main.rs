@@ -19,9 +19,9 @@ fn main() -> ExitCode {
         ["driver"] => ended(driver::drive()),
         ["sample", folder] => ended(sample::write(folder.as_ref())),
         ["generate", "small"] => ended(write_cases(generator::small::cases())),
-        ["generate", seed, count] => with_numbers(seed, count, |seed, count| {
-            ended(write_cases(generator::Generator::new(seed).take(count as usize)))
-        }),
+        ["generate", seed, count] => {
+            with_numbers(seed, count, |seed, count| ended(write_cases(generator::cases(seed, count))))
+        }
         ["compare", "small"] => passed(compare::all_small()),
         ["compare", seed, count] => {
             with_numbers(seed, count, |seed, count| passed(compare::seeded(seed, count)))

@@ -2,7 +2,7 @@
 //! the answers that a replay must give. The same seed writes the same bytes.
 
 use crate::generator::alone::ring_at_nets;
-use crate::generator::{small, Generator};
+use crate::generator::{divisions, small, Generator};
 use crate::random::Random;
 use crate::shrink::shrunk;
 use crate::verdict::{verdict, Side, Verdict};
@@ -16,18 +16,20 @@ use std::path::Path;
 const SEED: u64 = 1;
 const SCANNED: usize = 400_000;
 const RINGS_SCANNED: usize = 4_000;
-const SPREAD_OVER_SMALL: u64 = 700;
+const DIVISIONS_SCANNED: usize = 4_000;
+/// One in so many small cases. New ones go behind the others, whose rows then stay as they are.
+const SMALL_ONE_IN: usize = 4_076;
 
 /// Writes `cases.txt` into the folder and prints what it holds.
 pub fn write(folder: &Path) -> io::Result<()> {
     let mut sample = Sample::default();
     let chosen = [edges::cases(), late::cases(), bounds::cases(), differences::cases()];
     chosen.into_iter().flatten().for_each(|case| sample.keep(case));
-    let step = small::count() / SPREAD_OVER_SMALL;
-    small::cases().step_by(step as usize).for_each(|case| sample.keep(case));
+    small::cases().step_by(SMALL_ONE_IN).for_each(|case| sample.keep(case));
     sample.fill_from(Generator::new(SEED).take(SCANNED));
     let mut random = Random::new(SEED);
     sample.fill_from((0..RINGS_SCANNED).map(|_| ring_at_nets(&mut random)));
+    sample.fill_from(divisions(SEED).take(DIVISIONS_SCANNED));
     sample.save(&folder.join("cases.txt"))?;
     sample.print_contents();
     Ok(())
@@ -190,6 +192,7 @@ fn quota(kind: u64, verdict: &Verdict) -> u64 {
         (4 | 5, 0) => 120,
         (1 | 6 | 7, 0) => 50,
         (2..=5, _) => 16,
+        (24, 0) => 300,
         (36, 0) => 150,
         (10.., 0) => 60,
         _ => 12,

@@ -2,7 +2,7 @@
 //! answers 8 for a fee and 11 for the curve; where no u64 can be sent that leaves an amount, 14.
 
 use crate::calls;
-use crate::curve::{input_for, output_for, tokens_for};
+use crate::curve::{input_for, lp_divided, output_for, tokens_for};
 use crate::fees::{calculate_pre_fee_amount, fee_rounded_up, part_rounded_down, split_creator_fee, MILLION};
 use crate::refusal::*;
 use crate::ring;
@@ -28,7 +28,7 @@ fn values(kind: u64, words: &[u64]) -> Values {
     match kind {
         10..=17 => fee(kind, words),
         18 | 19 => charge(kind, words),
-        20..=23 => curve(kind, words),
+        20..=24 => curve(kind, words),
         30 => ring_update(words, [from_halves(words[9], words[10]), from_halves(words[11], words[12])]),
         31 => calls::nets(&vaults(words)).map(Vec::from),
         32 => prices(words),
@@ -89,12 +89,21 @@ fn curve(kind: u64, words: &[u64]) -> Values {
     match kind {
         20 => Ok(vec![word(output_for(first, second, third).ok_or(PANIC)?, PANIC)?]),
         21 => Ok(vec![word(input_for(first, second, third).ok_or(PANIC)?, PANIC)?]),
+        24 => division(first, second, third),
         _ => {
             refuse_if(second == ZERO, ZERO_TRADING_TOKENS)?;
             let tokens = |net| word(tokens_for(first, second, net, words[4] == 1), PANIC);
             Ok(vec![tokens(third)?, tokens(whole(words[3]))?])
         }
     }
+}
+
+/// A quotient of up to 128 bits; a remainder is below its supply, so that it has 64.
+fn division(lp: Whole, net: Whole, supply: Whole) -> Values {
+    refuse_if(supply == ZERO, ZERO_TRADING_TOKENS)?;
+    let (quotient, remainder) = lp_divided(lp, net, supply);
+    let (high, low) = quotient.halves();
+    Ok(vec![high, low, word(remainder, PANIC)?])
 }
 
 fn ceil_div(words: &[u64]) -> Values {

@@ -105,6 +105,12 @@ pub const FORMS: &[Form] = &[
         &["high", "low"],
     ),
     function(
+        24,
+        "lp_tokens_div_rem",
+        &["lp", "net", "supply"],
+        &["quotient high", "quotient low", "remainder"],
+    ),
+    function(
         30,
         "update",
         &[

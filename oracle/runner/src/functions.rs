@@ -13,7 +13,7 @@ pub fn answer(case: &Case) -> Outcome {
     match case.kind {
         10..=17 => results(case, caught(|| Ok(fee(case.kind, words))).and_then(|result| result)),
         18 | 19 => Outcome::Absent("a charge: utils/token.rs is stood in for"),
-        20..=23 => results(case, caught(|| Ok(curve(case.kind, words))).and_then(|result| result)),
+        20..=24 => results(case, caught(|| Ok(curve(case.kind, words))).and_then(|result| result)),
         30 => ring_update(words, Ok((wide(words[9], words[10]), wide(words[11], words[12])))),
         36 => ring_update(words, caught(|| counters([0; 6], 0).token_price_x32(words[9], words[10]))),
         31 => results(case, nets(words)),
@@ -81,11 +81,28 @@ fn curve(kind: u64, words: &[u64]) -> Results {
             let amounts = tokens.map(|tokens| vec![tokens.token_0_amount, tokens.token_1_amount]);
             amounts.map_or_else(|| some_or_none(None), Ok)
         }
+        24 => division(first, second, third),
         _ => {
             let quotient = wide(words[0], words[1]).checked_ceil_div(wide(words[2], words[3]));
             some_or_none(quotient).map(|quotient| halves(quotient[0]).map(u128::from).to_vec())
         }
     }
+}
+
+/// The original's amount rounded down is the quotient, of 128 bits, and the remainder is what that leaves
+/// of the product. Rounded up it is one more just where there is a remainder and the quotient is not 0.
+fn division(lp: u128, net: u128, supply: u128) -> Results {
+    let amount = |round| {
+        let tokens = CurveCalculator::lp_tokens_to_trading_tokens(lp, supply, net, net, round);
+        tokens.map(|tokens| tokens.token_0_amount)
+    };
+    let (Some(quotient), Some(up)) = (amount(RoundDirection::Floor), amount(RoundDirection::Ceiling)) else {
+        return some_or_none(None);
+    };
+    let remainder = lp * net - quotient * supply;
+    assert_eq!(up - quotient, u128::from(quotient > 0 && remainder > 0));
+    let [high, low] = halves(quotient).map(u128::from);
+    Ok(vec![high, low, remainder])
 }
 
 /// The ring at two prices, which are given or which the original makes of two nets.

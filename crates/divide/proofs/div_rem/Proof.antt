@@ -1,5 +1,5 @@
 -- `divide::div_rem` meets its contract: two digits of the shifted number divided by the shifted divisor (`Long.antt`).
-use mathlib.Core.Path.{_≡_, sym, ap, subst}
+use mathlib.Core.Path.{_≡_, sym, ap, subst, _∙_}
 use Prim.Native.Nat.{ℕ, _+_, _-_, _*_, _/_, _%_, _^_, _<_}
 use native.Mathlib.Nat.{lt-trans, le-trans, mod-lt, mod-eq-of-lt}
 use native.Mathlib.Omega.{arith}
@@ -13,16 +13,13 @@ use borrow.Author.Needs.{needs}
 use Rattle.divide.proofs.div_rem.Statement.{statement}
 use Rattle.divide.proofs.div_rem.Tie as tie
 
-div-t12 : tie.Need-div-t12
-div-t12 c = search needs
-
-rem-t13 : tie.Need-rem-t13
-rem-t13 c = search needs
+div-rem-short-requires : tie.Need-div-rem-short-requires
+div-rem-short-requires c κs = search needs
 
 returns : tie.Need-returns
 returns c =
-    let a = c .before .args in
-    ap (λ (n : ℕ). divided n (a .d)) (sym (low-only _ _ (c .if1 .taken)))
+    let a = c .before .before .args in
+    c .div-rem-short .ensures ∙ ap (λ (n : ℕ). divided n (a .d)) (sym (low-only _ _ (c .before .if1 .taken)))
 
 norm-shift-requires : tie.Need-norm-shift-requires
 norm-shift-requires c κs = search needs
@@ -91,17 +88,17 @@ first-small c = let r = digit-requires (c .before) tt in digit-small (c .digit .
 second-small : (c : tie.After-digit2) → c .digit2 .result .quotient < 2 ^ 32
 second-small c = digit-small (c .digit2 .ensures) (c .before .digit .ensures .less) (mod-lt _ (pow-pos 32))
 
-mul-t19 : tie.Need-mul-t19
-mul-t19 c = omega (arith, first-small (c .before .before))
+mul-t17 : tie.Need-mul-t17
+mul-t17 c = omega (arith, first-small (c .before .before))
 
-add-t14 : tie.Need-add-t14
-add-t14 c = omega (arith, first-small (c .before .before .before), second-small (c .before .before))
+add-t12 : tie.Need-add-t12
+add-t12 c = omega (arith, first-small (c .before .before .before), second-small (c .before .before))
 
-cast-t18 : tie.Need-cast-t18
-cast-t18 c = search needs
+cast-t16 : tie.Need-cast-t16
+cast-t16 c = search needs
 
-shr-t15 : tie.Need-shr-t15
-shr-t15 c = search needs
+shr-t13 : tie.Need-shr-t13
+shr-t13 c = search needs
 
 returns-2 : tie.Need-returns-2
 returns-2 c =
@@ -121,8 +118,7 @@ pub div-rem-spec : {M : Type 1} → statement M
 div-rem-spec =
     tie.close
     (tie.spec
-    div-t12
-    rem-t13
+    div-rem-short-requires
     returns
     norm-shift-requires
     cast-divisor
@@ -137,8 +133,8 @@ div-rem-spec =
     shl-lower
     digit-requires
     digit-requires-2
-    mul-t19
-    add-t14
-    cast-t18
-    shr-t15
+    mul-t17
+    add-t12
+    cast-t16
+    shr-t13
     returns-2)

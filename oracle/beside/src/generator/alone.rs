@@ -4,11 +4,13 @@ use super::charges;
 use crate::random::Random;
 use record::{Case, FORMS};
 
-/// The ring at nets, which has cases of its own so that the others stay as they are.
+/// The ring at nets and the division of an LP amount's product have cases of their own, so that the
+/// others stay as they are.
 const AT_NETS: u64 = 36;
+const DIVISION: u64 = 24;
 
 pub fn case(random: &mut Random) -> Case {
-    let alone = FORMS.iter().filter(|form| !form.is_call() && form.kind != AT_NETS);
+    let alone = FORMS.iter().filter(|form| !form.is_call() && ![AT_NETS, DIVISION].contains(&form.kind));
     let kinds: Vec<u64> = alone.map(|form| form.kind).chain([30, 30, 30]).collect();
     let kind = random.pick(&kinds);
     let columns = match kind {
@@ -57,6 +59,18 @@ fn curve(random: &mut Random) -> Vec<u64> {
     let (amount, net_in) = (random.any(), random.any());
     let net_out = if random.chance(3) { amount.saturating_add(random.below(4)) } else { random.any() };
     vec![amount, net_in, net_out]
+}
+
+/// LP and net are also at or beside the supply, where the remainder turns over; each of the three is often
+/// of full length.
+pub fn division(random: &mut Random) -> Case {
+    let supply = if random.chance(3) { random.word() } else { random.any() };
+    let mut factor = || match random.below(4) {
+        0 => random.near(supply),
+        1 => random.word(),
+        _ => random.any(),
+    };
+    Case { kind: DIVISION, columns: vec![factor(), factor(), supply] }
 }
 
 /// The ring at two nets, neither of them 0.

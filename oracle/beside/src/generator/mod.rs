@@ -11,6 +11,21 @@ use crate::random::Random;
 use list::List;
 use record::Case;
 
+/// Behind so many cases of a seed there is one division of an LP amount's product.
+pub const DIVISION_ONE_FOR: u64 = 20;
+
+/// So many cases of a seed, and the divisions behind them.
+pub fn cases(seed: u64, count: u64) -> impl Iterator<Item = Case> {
+    let divisions = divisions(seed).take((count / DIVISION_ONE_FOR) as usize);
+    Generator::new(seed).take(count as usize).chain(divisions)
+}
+
+/// Divisions without end.
+pub fn divisions(seed: u64) -> impl Iterator<Item = Case> {
+    let mut random = Random::new(seed);
+    std::iter::repeat_with(move || alone::division(&mut random))
+}
+
 pub struct Generator {
     random: Random,
     list: List,

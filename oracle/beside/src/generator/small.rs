@@ -44,6 +44,7 @@ fn grids() -> Vec<Grid> {
         grids.extend([2, 3].map(|kind| charged_swaps(kind, rates)));
     }
     grids.extend([charged_deposits(), charged_withdrawals(), charged_settlements(), charged_openings()]);
+    grids.push(Grid { kind: 24, columns: vec![to(15), to(15), to(15)] });
     grids
 }
 

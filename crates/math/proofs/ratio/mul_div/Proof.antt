@@ -4,7 +4,8 @@ use Prim.Native.Nat.{ℕ, _*_, _/_, _^_, _≤_, _<_}
 use native.Mathlib.Nat.{pos-of-ne-zero}
 use Rattle.divide.specs.Division.{divided}
 use Rattle.math.specs.declared.ratio.Parts.the-variants as P
-use Rattle.math.proofs.Answers.{parts-none, parts-fits, parts-past, halves-fit, halves-past}
+use Rattle.math.proofs.Answers.{parts-none, parts-fits, parts-past, halves-past}
+use Rattle.divide.proofs.Long.{halves-fit}
 use borrow.Author.Needs.{needs}
 use Rattle.math.proofs.ratio.mul_div.Statement.{statement}
 use Rattle.math.proofs.ratio.mul_div.Tie as tie

@@ -6,7 +6,7 @@ use Prim.Native.Nat.{zero-le}
 use native.Mathlib.Omega.{arith}
 use Rattle.math.specs.declared.ratio.Quotient.the-variants as Q
 use Rattle.math.proofs.Rounding.{floor-fits}
-use Rattle.math.proofs.Answers.{halves-fit}
+use Rattle.divide.proofs.Long.{halves-fit}
 use borrow.Author.Needs.{needs}
 use Rattle.math.proofs.ratio.mul_div_sum.Statement.{statement}
 use Rattle.math.proofs.ratio.mul_div_sum.Tie as tie
