@@ -39,7 +39,7 @@ pub divides-three : lpDivided 3 1000000 2000000 ≡ record { number = 0; quotien
 unfolding lpDivided outcome
 divides-three = refl
 
--- a supply of 1 leaves the whole product, here (2^64 − 1)²; a supply of 0 is none
+-- by a supply of 1 the quotient is the whole product, here (2^64 − 1)²; a supply of 0 is none
 pub divides-by-one :
     lpDivided 18446744073709551615 18446744073709551615 1
     ≡ record { number = 0; quotient = record { high = 18446744073709551614; low = 1 }; remainder = 0 }

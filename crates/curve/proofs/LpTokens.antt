@@ -121,7 +121,7 @@ module _ (lp net supply : ℕ) where
     unfolding lpDivided
     accepted h = ap (λ (x : LpDivided). x .number) (p .0 ∙ sym (outcome-all _ _ _ (omega (arith, turns))))
 
-    -- what the number and the quotient say of the supply
+    -- what the number says of the supply
     pub refused-supply : (r .number ≡ 0 → ⊥) → supply ≡ 0
     refused-supply f = ⊎-elim (λ e. e) (λ h. absurd (f (accepted h))) (eq-zero-or-pos supply)
 

@@ -115,8 +115,8 @@ pub fn lp_tokens_div_rem(lp: LpTokens, net: TradingTokens, supply: LpTokens) -> 
     }
 }
 
-// A quotient rounded: up, one more where there is a remainder and the quotient is not 0. Modulo 2^128, which no quotient of a product of two
-// u64 reaches.
+// A quotient rounded down, or up: then it is one more where there is a remainder and the quotient is not 0. Modulo 2^128, which no quotient of a
+// product of two u64 reaches.
 pub fn round_quotient(quotient: U128, remainder: u64, direction: RoundDirection) -> U128
     ensures { λ r. ⌜ r ≡ u128Of (rounded direction (value quotient) remainder) ⌝ }
 {

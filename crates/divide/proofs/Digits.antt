@@ -54,22 +54,22 @@ module _ (h l d q m : ℕ) (top : 2 ^ 63 ≤ d) (hh : h < d) (hl : l < 2 ^ 32) (
   same = omega (arith, by-halves q d, w .whole)
 
   -- the estimate is right
-  pub right : taken q d ≤ rest m l → Divides (h * 2 ^ 32 + l) d (q) (rest m l - taken q d)
+  pub right : taken q d ≤ rest m l → Divides (h * 2 ^ 32 + l) d q (rest m l - taken q d)
   right t = record { whole = omega (arith, same); less = omega (arith, rest-lt) }
 
   -- it is one too high
   pub one-pos : rest m l < taken q d → 0 < q
-  one-pos t = pos-of-lt-mul {n = 0} (q) d (omega (arith, same))
+  one-pos t = pos-of-lt-mul {n = 0} q d (omega (arith, same))
 
   pub one-high : rest m l < taken q d → taken q d - rest m l ≤ d → Divides (h * 2 ^ 32 + l) d (q - 1) (rest m l + d - taken q d)
-  one-high t u = record { whole = omega (arith, same, once-less (q) d (one-pos t)); less = omega arith }
+  one-high t u = record { whole = omega (arith, same, once-less q d (one-pos t)); less = omega arith }
 
   -- it is two too high
   pub two-pos : d < taken q d - rest m l → 0 < q - 1
-  two-pos t = pos-of-lt-mul {n = 0} (q - 1) d (omega (arith, same, once-less (q) d (one-pos (omega arith))))
+  two-pos t = pos-of-lt-mul {n = 0} (q - 1) d (omega (arith, same, once-less q d (one-pos (omega arith))))
 
   pub two-high : d < taken q d - rest m l → Divides (h * 2 ^ 32 + l) d (q - 1 - 1) (rest m l + d + d - taken q d)
-  two-high t = record { whole = omega (arith, same, once-less (q) d (one-pos (omega arith)), once-less (q - 1) d (two-pos t), taken-lt); less = omega arith }
+  two-high t = record { whole = omega (arith, same, once-less q d (one-pos (omega arith)), once-less (q - 1) d (two-pos t), taken-lt); less = omega arith }
 
 -- a flag times d
 flag-none : {f : ℕ} (d : ℕ) → f ≡ 0 → f * d ≡ 0

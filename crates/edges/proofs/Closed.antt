@@ -2,11 +2,11 @@
 -- Assumes nothing.
 use Prim.Native.Nat.{ℕ, _+_}
 use mathlib.Core.Path.{_≡_, refl, sym, ap, _∙_}
-use mathlib.Core.Bool.{Bool, true, false, cond, _||_, false≢true}
+use mathlib.Core.Bool.{Bool, true, false, cond, _||_}
 use native.Mathlib.Omega.{arith}
 use lib.Dec.{ltb, eqb}
 use Rattle.refusal.specs.Tests.{Tests, _then_, outcome}
-use Rattle.refusal.proofs.Stops.{outcome-at}
+use Rattle.refusal.proofs.Stops.{one-of, neither, outcome-at}
 use Rattle.fees.specs.Fees.{Million}
 use Rattle.rates.specs.declared.Terms.{Terms}
 use Rattle.rates.specs.Rates.{HighestFeeRate, rateLimits}
@@ -25,17 +25,6 @@ use Rattle.swap.specs.declared.SwapAfter.{SwapAfter}
 use Rattle.swap.specs.Swap.{inputTests, outputTests, refusedSwap, swapAfter}
 use Rattle.edges.specs.Closed.{pastLimits, closedToSwaps, SwapOrder, DepositOrder, WithdrawalOrder, ClosedBeforeNothing}
 
--- ---- two tests as one
--- where one of them fails: the first, or past it the second
-either-true : (x y : Bool) {P : Type 0} → (x || y) ≡ true → (x ≡ true → P) → (x ≡ false → y ≡ true → P) → P
-either-true true y e f g = f refl
-either-true false y e f g = g refl e
-
--- where none does
-both-false : (x y : Bool) → (x || y) ≡ false → (x ≡ false) × (y ≡ false)
-both-false true y e = absurd (false≢true (sym e))
-both-false false y e = (refl, e)
-
 is-none : (n : ℕ) → n ≡ 0 → eqb n 0 ≡ true
 is-none n e = ap (λ (n : ℕ). eqb n 0) e
 
@@ -52,22 +41,22 @@ module _ (t : Terms) (status direction amount clock : ℕ) (rest : Tests) (bad :
 
   past-limits : pastLimits t ≡ true → came ≡ bad 3
   unfolding rateLimits _then_
-  past-limits h = either-true rates shares h (λ e. sym (outcome-at 0 _ bad good e)) (λ e f. sym (outcome-at 1 _ bad good (e, f)))
+  past-limits h = one-of rates shares h (λ e. sym (outcome-at 0 _ bad good e)) (λ e f. sym (outcome-at 1 _ bad good (e, f)))
 
   module _ (h : pastLimits t ≡ false) where
     while-closed : closedToSwaps t status clock ≡ true → came ≡ bad 1
     unfolding rateLimits _then_
     while-closed c =
-        let l = both-false rates shares h in
-        either-true (bit 2 status) (ltb clock (t .«open_time»)) c
+        let l = neither rates shares h in
+        one-of (bit 2 status) (ltb clock (t .«open_time»)) c
         (λ e. sym (outcome-at 2 _ bad good (l .0, (l .1, e))))
         (λ e f. sym (outcome-at 3 _ bad good (l .0, (l .1, (e, f)))))
 
     asked-for-none : closedToSwaps t status clock ≡ false → amount ≡ 0 → came ≡ bad 10
     unfolding rateLimits _then_
     asked-for-none c a =
-        let l = both-false rates shares h in
-        let o = both-false (bit 2 status) (ltb clock (t .«open_time»)) c in
+        let l = neither rates shares h in
+        let o = neither (bit 2 status) (ltb clock (t .«open_time»)) c in
         sym (outcome-at 4 _ bad good (l .0, (l .1, (o .0, (o .1, is-none amount a)))))
 
 -- either swap begins with it, on an amount of which nothing is left where it is 0
@@ -110,7 +99,7 @@ unfolding withdrawAfter withdrawAt withdrawTests
 withdrawal-order c status b lp owned minimum0 minimum1 = record {
   closed = λ h. sym (outcome-at 0 _ (refusedBooks b) _ h);
   amount = λ h r.
-      either-true (eqb lp 0) (ltb owned lp) r
+      one-of (eqb lp 0) (ltb owned lp) r
       (λ e. sym (outcome-at 1 _ (refusedBooks b) _ (h, e)))
       (λ e f. sym (outcome-at 2 _ (refusedBooks b) _ (h, (e, f))));
 }

@@ -1,14 +1,14 @@
 -- The payment's tests two by two: both protocol counters, then both vaults.
 -- Assumes nothing.
 use mathlib.Core.Path.{_≡_, refl, sym, ap, _∙_}
-use mathlib.Core.Bool.{Bool, true, false, _||_, true≢false}
+use mathlib.Core.Bool.{Bool, true, false, _||_}
 use mathlib.Core.List.{[], _∷_}
 use Prim.Native.Nat.{ℕ, _+_, _-_, _≤_}
 use lib.Dec.{ltb}
 use borrow.Author.Tests.{ltb-false}
 use Rattle.refusal.specs.Refusal.{MathOverflow, InsufficientVault}
 use Rattle.refusal.specs.Tests.{U64, Tests, _then_, past, outcome}
-use Rattle.refusal.proofs.Stops.{outcome-past, outcome-all}
+use Rattle.refusal.proofs.Stops.{neither, outcome-past, outcome-all}
 use Rattle.charge.specs.declared.Charges.{Charges}
 use Rattle.charge.specs.declared.Charged.{Charged}
 use Rattle.charge.specs.Charge.{chargedOn}
@@ -25,10 +25,6 @@ one-fails :
 unfolding outcome
 one-fails true b n ts bad good e = refl
 one-fails false b n ts bad good e = rw e
-
-neither : (a b : Bool) → a || b ≡ false → (a ≡ false) × (b ≡ false)
-neither true b e = absurd (true≢false e)
-neither false b e = (refl, e)
 
 -- p0 and p1 are what the tests of the protocol counters gave
 module _ (shared0 shared1 : ℕ) (charges : Charges) (b : Books) {p0 p1 : Bool} (is0 : p0 ≡ past (b .fees .protocol0 + shared0))

@@ -44,7 +44,7 @@ pub fn widening_mul(a: u64, b: u64) -> U128
     }
 }
 
-// The sum modulo 2^128: cumulative prices wrap on purpose across both halves.
+// The sum modulo 2^128: cumulative prices wrap on purpose across both halves. A quotient that is rounded up never does.
 pub fn wrapping_add(a: U128, b: U128) -> U128
     ensures { λ r. ⌜ r ≡ u128Of (value a + value b) ⌝ }
 {

@@ -7,9 +7,9 @@ use Prim.Native.Nat.{ℕ, _*_, _/_, _^_, _≤_, _<_}
 use native.Mathlib.Nat.{eq-zero-or-pos}
 use native.Mathlib.Omega.{arith}
 use lib.Dec.{eqb}
-use borrow.Author.Tests.{eqb-true, eqb-false, eq-eqb}
+use borrow.Author.Tests.{eqb-true, eqb-false, eq-eqb, not-false}
 use Rattle.refusal.specs.Refusal.{ZeroTradingTokens, Panic}
-use Rattle.refusal.proofs.Stops.{turns, outcome-at, outcome-all}
+use Rattle.refusal.proofs.Stops.{turns, one-of, neither, outcome-at, outcome-all}
 use Rattle.wide.specs.declared.U128.{U128}
 use Rattle.wide.specs.Value.{value, u128Of}
 use Rattle.curve.specs.declared.constant_product.LpDivided.{LpDivided}
@@ -25,12 +25,9 @@ pub some-high : (h0 h1 : ℕ) → not (eqb h0 0) || not (eqb h1 0) ≡ true → 
 some-high h0 h1 t z0 z1 = eqb-false 0 0 (sym (rw (eq-eqb h0 0 z0, eq-eqb h1 0 z1) at t)) refl
 
 pub no-high : (h0 h1 : ℕ) → not (eqb h0 0) || not (eqb h1 0) ≡ false → (h0 ≡ 0) × (h1 ≡ 0)
-no-high h0 h1 = go (eqb h0 0) refl (eqb h1 0) refl
-  where
-    go : (a : Bool) → eqb h0 0 ≡ a → (b : Bool) → eqb h1 0 ≡ b → not a || not b ≡ false → (h0 ≡ 0) × (h1 ≡ 0)
-    go true e true f t = (eqb-true h0 0 e, eqb-true h1 0 f)
-    go true e false f t = absurd (eqb-false 0 0 t refl)
-    go false e b f t = absurd (eqb-false 0 0 t refl)
+no-high h0 h1 t =
+    let n = neither (not (eqb h0 0)) (not (eqb h1 0)) t in
+    (eqb-true h0 0 (not-false (eqb h0 0) (n .0)), eqb-true h1 0 (not-false (eqb h1 0) (n .1)))
 
 -- a quotient that is not 0 is of a supply
 supply-of : (lp net supply : ℕ) {r : LpDivided} → Promised lp net supply r → eqb (value (r .quotient)) 0 ≡ false → 0 < supply
@@ -76,44 +73,55 @@ module _ (direction : RoundDirection) (lp supply n0 n1 : ℕ) where
     pub past : (a0 .high ≡ 0 → a1 .high ≡ 0 → ⊥) → T.Refused Panic ≡ tokenAmounts direction lp supply n0 n1
     pub both : a0 .high ≡ 0 → a1 .high ≡ 0 → T.Amounts (tokens (a0 .low)) (tokens (a1 .low)) ≡ tokenAmounts direction lp supply n0 n1
 
-  module _ {r0 : LpDivided} (p0 : Promised lp n0 supply r0) where
-    pub none0 : eqb (value (r0 .quotient)) 0 ≡ true → T.Refused ZeroTradingTokens ≡ tokenAmounts direction lp supply n0 n1
+  -- z0 and z1 are what the tests of the two quotients gave
+  module _
+      {r0 r1 : LpDivided} {z0 z1 : Bool} (p0 : Promised lp n0 supply r0) (p1 : Promised lp n1 supply r1)
+      (is0 : z0 ≡ eqb (value (r0 .quotient)) 0) (is1 : z1 ≡ eqb (value (r1 .quotient)) 0) where
+    none0 : z0 ≡ true → T.Refused ZeroTradingTokens ≡ tokenAmounts direction lp supply n0 n1
     none0 e =
         ⊎-elim stops-none
-        (λ (h : 0 < supply). stops-zero0 h (amount-zero lp supply n0 direction p0 h e))
+        (λ (h : 0 < supply). stops-zero0 h (amount-zero lp supply n0 direction p0 h (sym is0 ∙ e)))
         (eq-zero-or-pos supply)
 
-    module _ (s0 : eqb (value (r0 .quotient)) 0 ≡ false) {r1 : LpDivided} (p1 : Promised lp n1 supply r1) where
-      some-supply : 0 < supply
-      some-supply = supply-of lp n0 supply p0 s0
+    some-supply : z0 ≡ false → 0 < supply
+    some-supply s0 = supply-of lp n0 supply p0 (sym is0 ∙ s0)
 
-      first-some : 0 < lpAmount direction lp supply n0
-      first-some = amount-some lp supply n0 direction p0 some-supply s0
+    first-some : z0 ≡ false → 0 < lpAmount direction lp supply n0
+    first-some s0 = amount-some lp supply n0 direction p0 (some-supply s0) (sym is0 ∙ s0)
 
-      pub none1 : eqb (value (r1 .quotient)) 0 ≡ true → T.Refused ZeroTradingTokens ≡ tokenAmounts direction lp supply n0 n1
-      none1 e = stops-zero1 some-supply first-some (amount-zero lp supply n1 direction p1 some-supply e)
+    none1 : z0 ≡ false → z1 ≡ true → T.Refused ZeroTradingTokens ≡ tokenAmounts direction lp supply n0 n1
+    none1 s0 e = stops-zero1 (some-supply s0) (first-some s0) (amount-zero lp supply n1 direction p1 (some-supply s0) (sym is1 ∙ e))
 
-      module _
-          (s1 : eqb (value (r1 .quotient)) 0 ≡ false) (hl : lp < 2 ^ 64) (h0 : n0 < 2 ^ 64) (h1 : n1 < 2 ^ 64)
-          {a0 a1 : U128} (e0 : a0 ≡ u128Of (rounded direction (value (r0 .quotient)) (r0 .remainder)))
-          (e1 : a1 ≡ u128Of (rounded direction (value (r1 .quotient)) (r1 .remainder))) where
-        second-some : 0 < lpAmount direction lp supply n1
-        second-some = amount-some lp supply n1 direction p1 some-supply s1
+    pub none : z0 || z1 ≡ true → T.Refused ZeroTradingTokens ≡ tokenAmounts direction lp supply n0 n1
+    none t = one-of z0 z1 t none0 none1
 
-        fits0 : a0 .high ≡ 0 → (a0 .low ≡ lpAmount direction lp supply n0) × (lpAmount direction lp supply n0 < 2 ^ 64)
-        fits0 z = amount-fits lp supply n0 direction p0 some-supply hl h0 e0 z
+    module _
+        (t : z0 || z1 ≡ false) (hl : lp < 2 ^ 64) (h0 : n0 < 2 ^ 64) (h1 : n1 < 2 ^ 64)
+        {a0 a1 : U128} (e0 : a0 ≡ u128Of (rounded direction (value (r0 .quotient)) (r0 .remainder)))
+        (e1 : a1 ≡ u128Of (rounded direction (value (r1 .quotient)) (r1 .remainder))) where
+      some : 0 < supply
+      some = some-supply (neither z0 z1 t .0)
 
-        fits1 : a1 .high ≡ 0 → (a1 .low ≡ lpAmount direction lp supply n1) × (lpAmount direction lp supply n1 < 2 ^ 64)
-        fits1 z = amount-fits lp supply n1 direction p1 some-supply hl h1 e1 z
+      some0 : 0 < lpAmount direction lp supply n0
+      some0 = first-some (neither z0 z1 t .0)
 
-        pub parted : Parted a0 a1
-        parted = record {
-          past = λ f.
-              ⊎-elim
-              (λ (z : a0 .high ≡ 0). stops-past1 some-supply first-some second-some (fits0 z .1) (amount-past lp supply n1 direction p1 some-supply hl h1 e1 (f z)))
-              (λ (l : 0 < a0 .high). stops-past0 some-supply first-some second-some (amount-past lp supply n0 direction p0 some-supply hl h0 e0 (λ (z : a0 .high ≡ 0). omega arith)))
-              (eq-zero-or-pos (a0 .high));
-          both = λ z0 z1.
-              (λ i. T.Amounts (tokens (fits0 z0 .0 i)) (tokens (fits1 z1 .0 i)))
-              ∙ passes some-supply first-some second-some (fits0 z0 .1) (fits1 z1 .1);
-        }
+      some1 : 0 < lpAmount direction lp supply n1
+      some1 = amount-some lp supply n1 direction p1 some (sym is1 ∙ neither z0 z1 t .1)
+
+      fits0 : a0 .high ≡ 0 → (a0 .low ≡ lpAmount direction lp supply n0) × (lpAmount direction lp supply n0 < 2 ^ 64)
+      fits0 z = amount-fits lp supply n0 direction p0 some hl h0 e0 z
+
+      fits1 : a1 .high ≡ 0 → (a1 .low ≡ lpAmount direction lp supply n1) × (lpAmount direction lp supply n1 < 2 ^ 64)
+      fits1 z = amount-fits lp supply n1 direction p1 some hl h1 e1 z
+
+      pub parted : Parted a0 a1
+      parted = record {
+        past = λ f.
+            ⊎-elim
+            (λ (z : a0 .high ≡ 0). stops-past1 some some0 some1 (fits0 z .1) (amount-past lp supply n1 direction p1 some hl h1 e1 (f z)))
+            (λ (l : 0 < a0 .high). stops-past0 some some0 some1 (amount-past lp supply n0 direction p0 some hl h0 e0 (λ (z : a0 .high ≡ 0). omega arith)))
+            (eq-zero-or-pos (a0 .high));
+        both = λ z0 z1.
+            (λ i. T.Amounts (tokens (fits0 z0 .0 i)) (tokens (fits1 z1 .0 i)))
+            ∙ passes some some0 some1 (fits0 z0 .1) (fits1 z1 .1);
+      }

@@ -24,7 +24,7 @@ pub struct Worth {
 }
 
 // Both tokens' parts of an LP amount: none or an amount 0, 4; an amount past u64, 11. An amount is 0 exactly where its quotient is; where there is
-// none (supply 0) the quotient is 0 too.
+// none (supply 0) both quotients are 0 too.
 pub fn token_amounts(
     lp: LpTokens,
     supply: LpTokens,
@@ -35,16 +35,13 @@ pub fn token_amounts(
     ensures { λ r. ⌜ r ≡ tokenAmounts direction (lp .0) (supply .0) (net0 .0) (net1 .0) ⌝ }
 {
     let parts0 = lp_tokens_div_rem(lp, net0, supply);
+    let parts1 = lp_tokens_div_rem(lp, net1, supply);
     let quotient0 = parts0.quotient;
-    if is_zero(quotient0) {
+    let quotient1 = parts1.quotient;
+    if is_zero(quotient0) | is_zero(quotient1) {
         return TradingTokenResult::Refused(ZERO_TRADING_TOKENS);
     }
     let amount0 = round_quotient(quotient0, parts0.remainder, direction);
-    let parts1 = lp_tokens_div_rem(lp, net1, supply);
-    let quotient1 = parts1.quotient;
-    if is_zero(quotient1) {
-        return TradingTokenResult::Refused(ZERO_TRADING_TOKENS);
-    }
     let amount1 = round_quotient(quotient1, parts1.remainder, direction);
     if (amount0.high != 0) | (amount1.high != 0) {
         return TradingTokenResult::Refused(PANIC);

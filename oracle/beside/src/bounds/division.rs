@@ -26,7 +26,7 @@ fn none() -> Vec<Bound> {
     rows.map(|(says, given)| Bound { number: 4, ..row((says, given, [0; 3])) }).into()
 }
 
-/// LP, net and supply of 0, 1 and all.
+/// LP, net and supply of 0, 1 and all, and the worked day's.
 fn least() -> Vec<Row> {
     vec![
         ("no LP by supply 1", [0, MOST, 1], [0, 0, 0]),

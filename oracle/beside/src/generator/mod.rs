@@ -11,7 +11,7 @@ use crate::random::Random;
 use list::List;
 use record::Case;
 
-/// Behind so many cases of a seed there is one division of an LP amount's product.
+/// One division of an LP amount's product for so many cases of a seed, behind them all.
 pub const DIVISION_ONE_FOR: u64 = 20;
 
 /// So many cases of a seed, and the divisions behind them.
