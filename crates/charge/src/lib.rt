@@ -220,7 +220,17 @@ impl Charges {
                 charged,
             };
         }
-        self.transfer_each(forward, amount0, amount1)
+        let charge0 = self.token0;
+        let charge1 = self.token1;
+        transfer_each(
+            charge0.points,
+            charge0.maximum,
+            charge1.points,
+            charge1.maximum,
+            forward,
+            amount0,
+            amount1,
+        )
     }
 
     // The charges alone on an amount of each token that is sent.
@@ -230,29 +240,56 @@ impl Charges {
         if self.are_none() {
             return nothing_charged();
         }
-        let ends = self.transfer_each(true, amount0, amount1);
+        let charge0 = self.token0;
+        let charge1 = self.token1;
+        let ends = transfer_each(
+            charge0.points,
+            charge0.maximum,
+            charge1.points,
+            charge1.maximum,
+            true,
+            amount0,
+            amount1,
+        );
         ends.charged
     }
+}
 
-    // A transfer of each token by its charge. It stands apart, so that a pool without charges makes one test and no call.
-    fn transfer_each(self, forward: bool, amount0: u64, amount1: u64) -> Ends
-        ensures { λ r. ⌜ r ≡ bothTransferred forward self amount0 amount1 ⌝ }
-    {
-        let end0 = transfer(forward, self.token0, amount0);
-        let end1 = transfer(forward, self.token1, amount1);
-        let number = either(end0.number, end1.number);
-        if number != ACCEPTED {
-            return refuse_ends(number);
-        }
-        Ends {
-            number,
-            amount0: end0.amount,
-            amount1: end1.amount,
-            charged: Charged {
-                charge0: end0.charge,
-                charge1: end1.charge,
-            },
-        }
+// A transfer of each token by its charge. It stands apart, is called from two places and takes plain numbers, so that a pool without charges makes
+// one test and no call, and lays nothing out in memory for one.
+fn transfer_each(
+    points0: u64,
+    maximum0: u64,
+    points1: u64,
+    maximum1: u64,
+    forward: bool,
+    amount0: u64,
+    amount1: u64,
+) -> Ends
+    ensures { λ r. ⌜ r ≡ bothTransferred forward (record { token0 = record { points = points0; maximum = maximum0 }; token1 = record { points = points1; maximum = maximum1 } }) amount0 amount1 ⌝ }
+{
+    let charge0 = Charge {
+        points: points0,
+        maximum: maximum0,
+    };
+    let charge1 = Charge {
+        points: points1,
+        maximum: maximum1,
+    };
+    let end0 = transfer(forward, charge0, amount0);
+    let end1 = transfer(forward, charge1, amount1);
+    let number = either(end0.number, end1.number);
+    if number != ACCEPTED {
+        return refuse_ends(number);
+    }
+    Ends {
+        number,
+        amount0: end0.amount,
+        amount1: end1.amount,
+        charged: Charged {
+            charge0: end0.charge,
+            charge1: end1.charge,
+        },
     }
 }
 

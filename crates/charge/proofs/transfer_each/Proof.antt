@@ -1,10 +1,10 @@
--- `charge::Charges::transfer_each` meets its contract.
+-- `charge::transfer_each` meets its contract.
 -- Assumes nothing.
 use mathlib.Core.Path.{_∙_}
 use Rattle.charge.proofs.FarEnds.{joined-refused, joined-accepted}
 use borrow.Author.Needs.{needs}
-use Rattle.charge.proofs.Charges.transfer_each.Statement.{statement}
-use Rattle.charge.proofs.Charges.transfer_each.Tie as tie
+use Rattle.charge.proofs.transfer_each.Statement.{statement}
+use Rattle.charge.proofs.transfer_each.Tie as tie
 
 transfer-requires : tie.Need-transfer-requires
 transfer-requires c κs = search needs
