@@ -1,8 +1,8 @@
 //! Single steps of the arithmetic beside the same with u128, on operands that are used once.
 
-use crate::data::Amounts;
 use crate::measure::median;
 use beside::random::Random;
+use data::Amounts;
 use leaves::{port, with_u128};
 use std::hint::black_box;
 use std::time::Instant;

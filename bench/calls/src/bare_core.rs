@@ -1,9 +1,9 @@
 //! The original's bare core: parameters, calculator, booking and ring, without accounts, transfers
 //! or events, and with none of the handlers' checks.
 
-use crate::data::Work;
 use crate::handler::touch_ring;
 use anchor_lang::error::Result;
+use data::Work;
 use original::curve::{CurveCalculator, RoundDirection, SwapResult, TradingTokenResult};
 use original::error::ErrorCode;
 use original::states::{AmmConfig, ObservationState, PoolState, PoolStatusBitFlag, PoolStatusBitIndex};

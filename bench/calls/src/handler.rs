@@ -1,8 +1,8 @@
 //! The original's handlers, with their accounts laid out before the clock is read.
 
-use crate::data::Work;
 use anchor_lang::accounts::{AccountLoader, Context};
 use anchor_lang::Result;
+use data::Work;
 use original::instructions::{deposit, swap_base_input, swap_base_output, withdraw};
 use original::states::{ObservationState, PoolState};
 use record::Call;

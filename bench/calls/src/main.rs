@@ -5,14 +5,12 @@
 mod arithmetic;
 mod bare_core;
 mod chart;
-mod data;
 mod handler;
 mod measure;
 mod table;
 
 use beside::random::Random;
-use data::{Amounts, Bench, Clocks};
-use std::time::{SystemTime, UNIX_EPOCH};
+use data::{benches, seed};
 use std::{env, fs, process::ExitCode};
 
 const USAGE: &str = "usage: calls BATCHES CHART.svg";
@@ -44,26 +42,4 @@ fn main() -> ExitCode {
             ExitCode::FAILURE
         }
     }
-}
-
-/// Other data in each run.
-fn seed() -> u64 {
-    SystemTime::now().duration_since(UNIX_EPOCH).map_or(0, |since| since.as_nanos() as u64)
-}
-
-fn benches() -> Vec<Bench> {
-    let mut benches = Vec::new();
-    for kind in [2, 3] {
-        for amounts in [Amounts::Small, Amounts::Wide] {
-            for clocks in [Clocks::Still, Clocks::Moving] {
-                benches.push(Bench { kind, amounts, clocks });
-            }
-        }
-    }
-    for kind in [4, 5, 6, 7, 1] {
-        for amounts in [Amounts::Small, Amounts::Wide] {
-            benches.push(Bench { kind, amounts, clocks: Clocks::None });
-        }
-    }
-    benches
 }

@@ -2,19 +2,15 @@
 //! once before its time is taken, and what it left is compared after.
 
 use crate::bare_core::Core;
-use crate::data::{Bench, Work};
 use crate::handler::{accounts, run, touch, touch_memory, Accounts};
 use anchor_lang::clock;
 use beside::random::Random;
+use data::{touch_port, Bench, Work, BATCH};
 use port::Port;
 use record::Pool;
 use runner::Memory;
 use std::hint::black_box;
 use std::time::Instant;
-
-/// As many pools as a processor's nearest cache holds for one side.
-const BATCH: usize = 16;
-const FIRST_CLOCK: u64 = 1_700_000_000;
 
 /// Nanoseconds for a call; none where the original has no such thing.
 pub struct Times {
@@ -31,9 +27,9 @@ const SIDES: usize = 5;
 pub fn measured(bench: &Bench, random: &mut Random, batches: usize) -> Times {
     let mut times: [Vec<f64>; SIDES] = Default::default();
     for number in 0..batches {
-        let at = FIRST_CLOCK + random.below(1 << 30);
+        let at = data::clock(random);
         clock::set(at);
-        let works: Vec<Work> = (0..BATCH).map(|_| bench.work(random, at)).collect();
+        let works: Vec<Work> = (0..BATCH).map(|_| accepted(bench, random, at)).collect();
         for (side, time) in batch(&works, number % SIDES).into_iter().enumerate() {
             times[side].extend(time);
         }
@@ -45,6 +41,16 @@ pub fn measured(bench: &Bench, random: &mut Random, batches: usize) -> Times {
         handler: handler.map(less_nothing),
         with_accounts: with_accounts.map(less_nothing),
         core: core.map(less_nothing),
+    }
+}
+
+/// A call that the port accepts.
+fn accepted(bench: &Bench, random: &mut Random, at: u64) -> Work {
+    loop {
+        let work = bench.work(random, at);
+        if Port::of(&work.state, 0).call(&work.call) == 0 {
+            return work;
+        }
     }
 }
 
@@ -85,13 +91,6 @@ fn memories(works: &[Work]) -> Vec<Memory> {
 
 fn with_accounts(memory: &mut Memory, work: &Work) -> bool {
     accounts(memory, work).is_some_and(|mut accounts| run(&mut accounts, &work.call).is_ok())
-}
-
-/// Reads what the port is going to read.
-fn touch_port(port: &Port) {
-    let newest = 5 * port.pool[19] as usize;
-    black_box((port.pool, port.receipt));
-    black_box([port.ring[newest], port.ring[newest + 4], port.ring[(newest + 9) % 500]]);
 }
 
 /// Nanoseconds for a call; every one is accepted.

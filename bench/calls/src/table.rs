@@ -1,7 +1,7 @@
 //! The table, as it goes into docs/BENCHMARKS.md.
 
-use crate::data::Bench;
 use crate::measure::Times;
+use data::Bench;
 
 pub struct Row {
     pub bench: Bench,

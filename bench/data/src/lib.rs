@@ -1,8 +1,14 @@
-//! Fresh pools and calls on them that are accepted.
+//! Fresh pools and calls on them, and what every timing of such calls needs.
 
 use beside::random::Random;
 use port::Port;
 use record::{filled_ring, Call, Charge, Opening, Pool, Rates, RingHead, State, Swap};
+use std::hint::black_box;
+use std::time::{SystemTime, UNIX_EPOCH};
+
+/// As many pools as a processor's nearest cache holds for one side.
+pub const BATCH: usize = 16;
+const FIRST_CLOCK: u64 = 1_700_000_000;
 
 #[derive(Clone, Copy, PartialEq, Eq)]
 pub enum Amounts {
@@ -77,15 +83,11 @@ impl Bench {
         words.into_iter().filter(|word| !word.is_empty()).collect::<Vec<_>>().join(", ")
     }
 
-    /// A call at this clock that the port accepts.
+    /// A call at this clock; nearly all are accepted.
     pub fn work(&self, random: &mut Random, clock: u64) -> Work {
-        loop {
-            let state = self.state(random, clock);
-            let call = self.call(random, &state, clock);
-            if Port::of(&state, 0).call(&call) == 0 {
-                return Work { state, call };
-            }
-        }
+        let state = self.state(random, clock);
+        let call = self.call(random, &state, clock);
+        Work { state, call }
     }
 
     fn state(&self, random: &mut Random, clock: u64) -> State {
@@ -136,6 +138,41 @@ impl Bench {
             charges: [Charge::default(); 2],
         }
     }
+}
+
+/// Other data in each run.
+pub fn seed() -> u64 {
+    SystemTime::now().duration_since(UNIX_EPOCH).map_or(0, |since| since.as_nanos() as u64)
+}
+
+/// Another second for each batch.
+pub fn clock(random: &mut Random) -> u64 {
+    FIRST_CLOCK + random.below(1 << 30)
+}
+
+/// The calls that are timed, with their amounts and clocks.
+pub fn benches() -> Vec<Bench> {
+    let mut benches = Vec::new();
+    for kind in [2, 3] {
+        for amounts in [Amounts::Small, Amounts::Wide] {
+            for clocks in [Clocks::Still, Clocks::Moving] {
+                benches.push(Bench { kind, amounts, clocks });
+            }
+        }
+    }
+    for kind in [4, 5, 6, 7, 1] {
+        for amounts in [Amounts::Small, Amounts::Wide] {
+            benches.push(Bench { kind, amounts, clocks: Clocks::None });
+        }
+    }
+    benches
+}
+
+/// Reads what the port is going to read.
+pub fn touch_port(port: &Port) {
+    let newest = 5 * port.pool[19] as usize;
+    black_box((port.pool, port.receipt));
+    black_box([port.ring[newest], port.ring[newest + 4], port.ring[(newest + 9) % 500]]);
 }
 
 fn rates(random: &mut Random) -> Rates {
