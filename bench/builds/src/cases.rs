@@ -1,6 +1,5 @@
 //! What is timed: the benchmark's calls, and some that differ from them in one thing.
 
-use crate::library::Library;
 use beside::random::Random;
 use data::{benches, Amounts, Bench, Clocks, Work};
 use port::Port;
@@ -38,12 +37,13 @@ impl Case {
         }
     }
 
-    /// A call at this clock that the library accepts, or refuses where the case is a refusal.
-    pub fn work(&self, random: &mut Random, clock: u64, library: &Library) -> Work {
+    /// A call at this clock that is accepted, or refused where the case is a refusal. It is tried on a
+    /// copy of the library that is not timed.
+    pub fn work(&self, random: &mut Random, clock: u64) -> Work {
         loop {
             let mut work = self.bench.work(random, clock);
             self.twisted(&mut work);
-            let accepted = library.call(&mut Port::of(&work.state, 0), &work.call) == 0;
+            let accepted = Port::of(&work.state, 0).call(&work.call) == 0;
             if accepted != (self.twist == Twist::Zero) {
                 return work;
             }

@@ -71,8 +71,9 @@ impl Library {
     pub fn call(&self, memory: &mut Port, call: &Call) -> u64 {
         let Port { pool, ring, receipt } = memory;
         let (pool, ring, receipt) = (pool.as_mut_ptr(), ring.as_mut_ptr(), receipt.as_mut_ptr());
-        // SAFETY: whole arrays of today's lengths, of which an older build uses the beginning; they do
-        // not overlap, and the library uses them during the call only.
+        // SAFETY: both builds have these functions with these arguments, and neither is newer than this
+        // folder: the arrays are whole and of today's lengths, of which an older build uses the
+        // beginning. They do not overlap, and the library uses them during the call only.
         unsafe {
             match *call {
                 Call::Opening(opening) => (self.open)(pool, ring, receipt, opening.words().as_ptr()),

@@ -66,7 +66,7 @@ impl Measure {
     }
 
     fn drawn(&mut self, case: &Case, at: u64) -> Batch {
-        let works = (0..BATCH).map(|_| case.work(&mut self.random, at, &LIBRARIES[0][0]));
+        let works = (0..BATCH).map(|_| case.work(&mut self.random, at));
         let (calls, pristine) = works.map(|work| (work.call, Port::of(&work.state, 0))).unzip();
         Batch { calls, pristine }
     }

@@ -255,8 +255,8 @@ impl Charges {
     }
 }
 
-// A transfer of each token by its charge. It stands apart, is called from two places and takes plain numbers, so that a pool without charges makes
-// one test and no call, and lays nothing out in memory for one.
+// A transfer of each token by its charge. It is called from two places, so that it is not inlined, and takes plain numbers: a pool without charges
+// makes one test and no call, and lays nothing out in memory.
 fn transfer_each(
     points0: u64,
     maximum0: u64,

@@ -1,4 +1,4 @@
--- Document 01's edges that speak of the curve alone, by computation.
+-- Document 01's edges that speak of the curve alone, and examples of document 02 (d), by computation.
 -- Assumes nothing.
 use mathlib.Core.Path.{_≡_, refl}
 use Rattle.refusal.specs.Tests.{outcome}

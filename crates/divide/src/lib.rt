@@ -90,7 +90,7 @@ pub fn div_rem(n: U128, d: u64) -> Divided
 }
 
 // Whatever the quotient's size: where the high half is not below d it is divided first, and what it leaves takes its place before the low half.
-// It calls itself at most once, and so is never inlined: a caller's own short case stays short.
+// It calls itself (at most once) and so is never inlined: a caller's own short case stays short.
 fn long_division(high: u64, low: u64, d: u64) -> DividedWide
     requires { ⌜ 0 < d ⌝ }
     ensures { λ r. ⌜ r ≡ dividedWide (high * 2 ^ 64 + low) d ⌝ }
