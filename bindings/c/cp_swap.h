@@ -121,8 +121,12 @@ enum {
     CP_SWAP_PANIC = 11, /* the original program would have panicked */
     CP_SWAP_UNREADABLE_ROW = 12,
     CP_SWAP_INIT_LP_AMOUNT_TOO_LESS = 13,
-    CP_SWAP_TRANSFER_FEE_CALCULATE_NOT_MATCH = 14 /* no u64 can be sent that leaves the wanted amount */
+    CP_SWAP_TRANSFER_FEE_CALCULATE_NOT_MATCH = 14, /* no u64 can be sent that leaves the wanted amount */
+    CP_SWAP_LEFT_LP_AMOUNT_TOO_LESS = 15 /* a withdrawal would leave fewer than CP_SWAP_LOCK_LP_AMOUNT */
 };
+
+/* ---- so many LP tokens are locked at the opening; the supply counts them, the opener gets the rest */
+enum { CP_SWAP_LOCK_LP_AMOUNT = 100 };
 
 /* ---- what a pool is opened with */
 struct cp_swap_opening {
@@ -166,7 +170,8 @@ uint64_t cp_swap_base_output(uint64_t pool[25], uint64_t ring[500], uint64_t rec
 uint64_t cp_swap_deposit(uint64_t pool[25], uint64_t ring[500], uint64_t receipt[18],
                          uint64_t lp, uint64_t maximum_0, uint64_t maximum_1);
 
-/* Takes `lp` LP tokens back from an owner who holds `owned` and receives at least the minimums. */
+/* Takes `lp` LP tokens back from an owner who holds `owned` and receives at least the minimums;
+ * CP_SWAP_LOCK_LP_AMOUNT have to stay. */
 uint64_t cp_swap_withdraw(uint64_t pool[25], uint64_t ring[500], uint64_t receipt[18],
                           uint64_t lp, uint64_t owned, uint64_t minimum_0, uint64_t minimum_1);
 

@@ -1,5 +1,5 @@
-/* A pool's first day: opened, swapped both ways, a deposit, and a call that is refused. Then a pool
- * whose tokens are charged. */
+/* A pool's first day: opened, swapped both ways, a deposit, calls that are refused, and all withdrawn
+ * but what is locked. Then a pool whose tokens are charged. */
 #include "cp_swap.h"
 
 #include <inttypes.h>
@@ -45,7 +45,9 @@ int main(void)
     show("deposit", cp_swap_deposit(pool, ring, receipt, 1000, UINT64_MAX, UINT64_MAX));
     show("closing the swaps", cp_swap_set_status(pool, ring, receipt, CP_SWAP_SWAPS, CP_SWAP_CLOSED));
     show("swap by input", cp_swap_base_input(pool, ring, receipt, CP_SWAP_0_FOR_1, 10000, 1, 130));
-    show("withdrawal", cp_swap_withdraw(pool, ring, receipt, 2001000, 2001000, 0, 0));
+    show("withdrawal of all", cp_swap_withdraw(pool, ring, receipt, 2001000, 2001000, 0, 0));
+    show("withdrawal of all but the locked",
+         cp_swap_withdraw(pool, ring, receipt, 2001000 - CP_SWAP_LOCK_LP_AMOUNT, 2001000, 0, 0));
 
     opening.points_0 = 100;
     opening.maximum_0 = 50;

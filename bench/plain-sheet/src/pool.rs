@@ -14,9 +14,11 @@ pub const INVALID_MODEL: u64 = 9;
 pub const REQUIRE: u64 = 10;
 pub const PANIC: u64 = 11;
 pub const TOO_LESS: u64 = 13;
+pub const LEFT_TOO_LESS: u64 = 15;
 
 pub const MILLION: u64 = 1_000_000;
 const LEAST_SUPPLY: u64 = 101;
+const LOCKED_LP: u64 = 100;
 
 /// The two amounts that a row shows, or the refusal's number.
 pub type Amounts = Result<[u64; 2], u64>;
@@ -121,7 +123,9 @@ impl Pool {
         let whole = self.tokens_for(lp, nets, false)?;
         let amounts = [whole[0].min(nets[0]), whole[1].min(nets[1])];
         refuse_if(amounts[0] < minimums[0] || amounts[1] < minimums[1], SLIPPAGE)?;
-        self.supply = self.supply.checked_sub(lp).ok_or(PANIC)?;
+        let supply = self.supply.checked_sub(lp).ok_or(PANIC)?;
+        refuse_if(supply < LOCKED_LP, LEFT_TOO_LESS)?;
+        self.supply = supply;
         self.vaults = [self.vaults[0] - amounts[0], self.vaults[1] - amounts[1]];
         Ok(amounts)
     }

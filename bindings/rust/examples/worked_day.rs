@@ -1,7 +1,7 @@
-//! A pool's first day: opened, swapped both ways, a deposit, and a call that is refused. Then a pool
-//! whose tokens are charged.
+//! A pool's first day: opened, swapped both ways, a deposit, calls that are refused, and all withdrawn
+//! but what is locked. Then a pool whose tokens are charged.
 
-use cp_swap::{Charge, Direction, Opening, Pool, Rates, Receipt, Refusal, Ring, StatusBit};
+use cp_swap::{Charge, Direction, Opening, Pool, Rates, Receipt, Refusal, Ring, StatusBit, LOCK_LP_AMOUNT};
 
 fn main() -> Result<(), Refusal> {
     let (mut pool, mut ring) = (Pool::default(), Ring::default());
@@ -21,7 +21,9 @@ fn main() -> Result<(), Refusal> {
     let answer = pool.swap_base_input(&mut ring, Direction::ZeroForOne, 10_000, 1, 130);
     show("swap by input", &pool, answer)?;
     let answer = pool.withdraw(&mut ring, 2_001_000, 2_001_000, [0, 0]);
-    show("withdrawal", &pool, answer)?;
+    show("withdrawal of all", &pool, answer)?;
+    let answer = pool.withdraw(&mut ring, 2_001_000 - LOCK_LP_AMOUNT, 2_001_000, [0, 0]);
+    show("withdrawal of all but the locked", &pool, answer)?;
 
     let charges = [Charge { points: 100, maximum: 50 }, Charge { points: 25, maximum: u64::MAX }];
     let answer = pool.open(&mut ring, &Opening { charges, ..opening });

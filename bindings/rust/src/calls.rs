@@ -38,7 +38,11 @@ pub enum StatusBit {
     Swaps = 2,
 }
 
-/// What a pool is opened with; the opener holds the whole LP supply.
+/// So many LP tokens are locked at the opening, and no withdrawal touches them. The supply counts them.
+pub const LOCK_LP_AMOUNT: u64 = 100;
+
+/// What a pool is opened with. Its LP supply is the whole root of the product of the amounts, of which the
+/// opener gets all but [`LOCK_LP_AMOUNT`].
 #[derive(Clone, Copy, Debug, Default, PartialEq, Eq)]
 pub struct Opening {
     /// Of either token, as they arrived: an opening bears no charge.
@@ -123,7 +127,8 @@ impl Pool {
         self.call(ring, |pool, ring, receipt| plain::deposit(pool, ring, receipt, lp, maximums))
     }
 
-    /// Takes `lp` LP tokens back, of an owner who holds `owned` and receives at least these amounts.
+    /// Takes `lp` LP tokens back, of an owner who holds `owned` and receives at least these amounts;
+    /// [`LOCK_LP_AMOUNT`] have to stay.
     pub fn withdraw(&mut self, ring: &mut Ring, lp: u64, owned: u64, minimums: [u64; 2]) -> Answer {
         self.call(ring, |pool, ring, receipt| plain::withdraw(pool, ring, receipt, lp, owned, minimums))
     }

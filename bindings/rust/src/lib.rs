@@ -35,7 +35,7 @@ mod ring;
 
 pub mod plain;
 
-pub use calls::{Answer, Direction, FeeModel, Opening, StatusBit};
+pub use calls::{Answer, Direction, FeeModel, Opening, StatusBit, LOCK_LP_AMOUNT};
 pub use day_sheet::{DaySheet, Progress, ROW_LENGTH};
 pub use receipt::Receipt;
 pub use record::{Charge, Pool, Rates, RingHead};

@@ -3,7 +3,7 @@
 use std::error::Error;
 use std::fmt;
 
-/// The refusals by the original's names; a refused call has changed nothing.
+/// The refusals by the original's names where it has them; a refused call has changed nothing.
 #[derive(Clone, Copy, Debug, PartialEq, Eq, Hash)]
 #[repr(u64)]
 pub enum Refusal {
@@ -36,11 +36,13 @@ pub enum Refusal {
     InitLpAmountTooLess = 13,
     /// No u64 can be sent that leaves the wanted amount after the charge on it.
     TransferFeeCalculateNotMatch = 14,
+    /// A withdrawal that would leave fewer than [`LOCK_LP_AMOUNT`](crate::LOCK_LP_AMOUNT) LP tokens.
+    LeftLpAmountTooLess = 15,
 }
 
 impl Refusal {
     /// All of them, in the order of their numbers.
-    pub const ALL: [Refusal; 14] = [
+    pub const ALL: [Refusal; 15] = [
         Refusal::NotApproved,
         Refusal::ExceededSlippage,
         Refusal::InvalidInput,
@@ -55,9 +57,10 @@ impl Refusal {
         Refusal::UnreadableRow,
         Refusal::InitLpAmountTooLess,
         Refusal::TransferFeeCalculateNotMatch,
+        Refusal::LeftLpAmountTooLess,
     ];
 
-    /// The refusal's number, 1 to 14.
+    /// The refusal's number, 1 to 15.
     pub fn number(self) -> u64 {
         self as u64
     }
@@ -84,6 +87,7 @@ impl Refusal {
             Refusal::UnreadableRow => "the row cannot be read",
             Refusal::InitLpAmountTooLess => "the opening's supply is below 101",
             Refusal::TransferFeeCalculateNotMatch => "no u64 can be sent that leaves the wanted amount",
+            Refusal::LeftLpAmountTooLess => "fewer than the 100 locked LP tokens would be left",
         }
     }
 }

@@ -1,5 +1,6 @@
 //! Each call once accepted and once refused, on the pool of the rules' worked example.
 
+use cp_swap::LOCK_LP_AMOUNT;
 use cp_swap::{Answer, Charge, Direction, FeeModel, Opening, Pool, Rates, Receipt, Refusal, Ring, StatusBit};
 
 const RATES: Rates = Rates { trade: 2_500, protocol: 120_000, fund: 40_000, creator: 0, share: 0 };
@@ -145,6 +146,34 @@ fn deposits_and_withdrawals_round_for_the_pool() {
     assert_eq!((withdrawal.paid_out, pool.supply), ([1, 6], 2_000_000));
     refuses(Refusal::ZeroTradingTokens, |pool, ring| pool.deposit(ring, 1, MOST));
     refuses(Refusal::RequireViolated, |pool, ring| pool.withdraw(ring, 3, 2, [0, 0]));
+}
+
+/// Of the supply of 2,000,000 all but 100 can be withdrawn; what is below a minimum, or more than there is,
+/// is refused first.
+#[test]
+fn a_hundred_lp_tokens_stay() {
+    let all = 2_000_000;
+    let (mut pool, mut ring) = opened();
+    let receipt = pool.withdraw(&mut ring, all - LOCK_LP_AMOUNT, all, [0, 0]).expect("a hundred are left");
+    assert_eq!((receipt.paid_out, receipt.lp, pool.supply), ([999_950, 3_999_800], 1_999_900, 100));
+    assert_eq!(pool.nets(), Ok([50, 200]));
+    refuses_on((pool, ring), Refusal::LeftLpAmountTooLess, |pool, ring| pool.withdraw(ring, 2, 100, [1, 4]));
+
+    for lp in [all - LOCK_LP_AMOUNT + 1, all] {
+        refuses(Refusal::LeftLpAmountTooLess, |pool, ring| pool.withdraw(ring, lp, lp, [0, 0]));
+    }
+    refuses(Refusal::ExceededSlippage, |pool, ring| pool.withdraw(ring, all, all, [1_000_001, 0]));
+    refuses(Refusal::Panic, |pool, ring| pool.withdraw(ring, all + 1, all + 1, [0, 0]));
+}
+
+/// An opening of 101 LP tokens leaves its opener one.
+#[test]
+fn the_smallest_opening_has_one_lp_token_to_withdraw() {
+    let smallest = || opened_with(Opening { amounts: [101, 101], ..opening() });
+    let (mut pool, mut ring) = smallest();
+    assert_eq!(pool.withdraw(&mut ring, 1, 1, [1, 1]).map(|receipt| receipt.paid_out), Ok([1, 1]));
+    assert_eq!((pool.supply, pool.nets()), (LOCK_LP_AMOUNT, Ok([100, 100])));
+    refuses_on(smallest(), Refusal::LeftLpAmountTooLess, |pool, ring| pool.withdraw(ring, 2, 2, [0, 0]));
 }
 
 /// A deposit of 3 takes 2 and 6, a withdrawal of 3 gives 1 and 6; one token's limit alone can refuse.

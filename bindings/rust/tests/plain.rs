@@ -118,6 +118,6 @@ fn refusals_keep_their_numbers() {
         assert_eq!(Refusal::from_number(refusal.number()), Some(refusal));
     }
     assert_eq!(Refusal::from_number(0), None);
-    assert_eq!(Refusal::from_number(15), None);
+    assert_eq!(Refusal::from_number(16), None);
     assert_eq!(Refusal::ExceededSlippage.to_string(), "the price is beyond the caller's limit (refusal 2)");
 }

@@ -1,2 +1,3 @@
 pub mod Counters
 pub mod Booking
+pub mod Locked

@@ -12,6 +12,9 @@ ghost use Rattle.refusal.specs.Tests.{first};
 ghost use Rattle.accounting.specs.Counters.{ofToken, counterTests, netsAnswer};
 ghost use Rattle.accounting.specs.Booking.{creatorToken, pastTests, bookingAnswer};
 
+// So many LP tokens are locked at the start; the supply counts them. After `lock_lp_amount` of the original's instruction `initialize`.
+pub const LOCK_LP_AMOUNT: u64 = 100;
+
 pub struct FeeCounters {
     pub protocol0: u64,
     pub protocol1: u64,

@@ -1,5 +1,6 @@
--- Document 01, 'Edges': the starred ones and the worked day, with what document 02 (a) makes of one, the answers that 02 (b) changes, and pools whose
--- tokens carry charges (02 (c)), in one table. Each row is an opening, what is asked of its pool, and what must come out.
+-- Document 01, 'Edges': the starred ones and the worked day, with what document 02 (a) makes of one, the answers that 02 (b) changes, pools whose
+-- tokens carry charges (02 (c)), and withdrawals about the locked 100 (02 (e)), in one table. Each row is an opening, what is asked of its pool,
+-- and what must come out.
 use Prim.Native.Nat.{ℕ, _+_}
 use mathlib.Core.Path.{_≡_}
 use mathlib.Core.List.{List, [], _∷_}
@@ -193,6 +194,17 @@ edges =
     ∷ edge (charging 0 0 9999 U64) (call (SwapBaseOutput 0 10 U64 100)) ((number, 0) ∷ (paidOut1, 100000) ∷ (charge1, 99990) ∷ [])
     ∷ edge (charging 0 0 1 U64) (call (SwapBaseOutput 0 10 U64 100)) ((number, 0) ∷ (paidOut1, 11) ∷ (charge1, 1) ∷ [])
     ∷ edge (charging 0 0 9999 5) (call (SwapBaseOutput 0 10 U64 100)) ((number, 0) ∷ (paidOut1, 15) ∷ (charge1, 5) ∷ [])
+    -- the hundred that stays (02 (e)): a withdrawal of 1,999,900 leaves 100; one LP more, and all of them, are 15; more than there are is 11
+    ∷ edge worked (call (Withdraw (lp 1999900) (lp 1999900) (tokens 999950) (tokens 3999800)))
+    ((number, 0) ∷ (paidOut0, 999950) ∷ (paidOut1, 3999800) ∷ (netAfter0, 50) ∷ (netAfter1, 200) ∷ (supplyAfter, 100) ∷ [])
+    ∷ edge worked (call (Withdraw (lp 1999901) (lp 1999901) (tokens 0) (tokens 0))) ((number, 15) ∷ (supplyAfter, 2000000) ∷ [])
+    ∷ edge worked (call (Withdraw (lp 2000000) (lp 2000000) (tokens 0) (tokens 0))) ((number, 15) ∷ [])
+    ∷ edge worked (call (Withdraw (lp 2000001) (lp 2000001) (tokens 0) (tokens 0))) ((number, 11) ∷ [])
+    -- a minimum that is not met comes first
+    ∷ edge worked (call (Withdraw (lp 1999901) (lp 1999901) (tokens 999951) (tokens 0))) ((number, 2) ∷ [])
+    -- of 101 by 101 the opener gets 1: a withdrawal of 1 leaves 100, of 2 is 15
+    ∷ edge (square 101) (call (Withdraw (lp 1) (lp 1) (tokens 1) (tokens 1))) ((number, 0) ∷ (netAfter0, 100) ∷ (netAfter1, 100) ∷ (supplyAfter, 100) ∷ [])
+    ∷ edge (square 101) (call (Withdraw (lp 2) (lp 2) (tokens 0) (tokens 0))) ((number, 15) ∷ [])
     ∷ []
 
 -- what comes out is what must, in every row

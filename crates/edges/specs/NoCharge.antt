@@ -1,12 +1,12 @@
--- Document 02 (c): 'At points 0 .. no answer changes'. Each call without a charge, as documents 01 and 02 (a) and (b) have it, and that it is what the
--- call gives where both points are 0, whatever the maximums; its receipt shows charges of 0, and an opening's terms carry the charges that it is
--- given. A change of status takes none.
+-- Document 02 (c): 'At points 0 .. no answer changes'. Each call without a charge, as documents 01 and 02 (a), (b) and (e) have it, and that it is
+-- what the call gives where both points are 0, whatever the maximums; its receipt shows charges of 0, and an opening's terms carry the charges that
+-- it is given. A change of status takes none.
 use Prim.Native.Nat.{ℕ, _+_, _-_, _≤_}
 use mathlib.Core.Path.{_≡_}
 use mathlib.Core.Bool.{Bool, true, false}
 use mathlib.Core.List.{[], _∷_}
 use lib.Dec.{ltb, leb, eqb}
-use Rattle.refusal.specs.Refusal.{NotApproved, ExceededSlippage, InvalidInput, EmptySupply, MathOverflow, InvalidFeeModel, RequireViolated, Panic, InitLpAmountTooLess}
+use Rattle.refusal.specs.Refusal.{NotApproved, ExceededSlippage, InvalidInput, EmptySupply, MathOverflow, InvalidFeeModel, RequireViolated, Panic, InitLpAmountTooLess, LeftLpAmountTooLess}
 use Rattle.refusal.specs.Tests.{Tests, U64, _then_, past, outcome}
 use Rattle.fees.specs.Fees.{feeDown}
 use Rattle.rates.specs.declared.Terms.{Terms}
@@ -16,6 +16,7 @@ use Rattle.calculator.specs.Calculator.{curveOutput, curveInput}
 use Rattle.accounting.specs.declared.Books.{Books}
 use Rattle.accounting.specs.Counters.{net0, net1, counterTests}
 use Rattle.accounting.specs.Booking.{creatorToken, booked}
+use Rattle.accounting.specs.Locked.{LockLpAmount}
 use Rattle.charge.specs.declared.Charges.{Charges}
 use Rattle.charge.specs.Charge.{noCharges, nothingCharged}
 use Rattle.oracle.specs.declared.Ring.{Ring}
@@ -103,6 +104,7 @@ plainWithdrawal status b lp owned minimum0 minimum1 =
     then ((ltb paid0 minimum0, ExceededSlippage)
     ∷ (ltb paid1 minimum1, ExceededSlippage)
     ∷ (ltb (b .supply) lp, Panic)
+    ∷ (ltb (b .supply - lp) LockLpAmount, LeftLpAmountTooLess)
     ∷ []))))
     (refusedBooks b)
     (withdrawn paid0 paid1 nothingCharged b lp)

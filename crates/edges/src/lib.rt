@@ -1,17 +1,18 @@
-// Document 01's examples, each carried by a contract: its edges with the worked day, and its day sheet. Then what document 02 (a), (b) and (c)
-// mean for every call.
+// Document 01's examples, each carried by a contract: its edges with the worked day, and its day sheet. Then what document 02 (a), (b), (c) and
+// (e) mean for every call.
 ghost use Rattle.edges.specs.Closed.{ClosedBeforeNothing};
 ghost use Rattle.edges.specs.Edges.{edges, EdgesHold};
 ghost use Rattle.edges.specs.Example.{Example};
 ghost use Rattle.edges.specs.FreeDays.{FreeDays, NoSwapAnswers4};
+ghost use Rattle.edges.specs.Hundred.{HundredStays};
 ghost use Rattle.edges.specs.NoCharge.{NoChargeNoChange};
 ghost use mathlib.Core.Bool.{true};
 ghost use mathlib.Core.Path.{_≡_};
 ghost use lib.ListN.{length};
 
-// Every one of the table's 38 rows comes out as document 01 has it, with document 02 (a), (b) and (c) (specs/Edges.antt).
+// Every one of the table's 45 rows comes out as document 01 has it, with document 02 (a), (b), (c) and (e) (specs/Edges.antt).
 pub fn edges_hold() -> bool
-    ensures { λ r. ⌜ (r ≡ true) × (length edges ≡ 38) × EdgesHold ⌝ }
+    ensures { λ r. ⌜ (r ≡ true) × (length edges ≡ 45) × EdgesHold ⌝ }
 {
     true
 }
@@ -38,9 +39,16 @@ pub fn closed_before_nothing() -> bool
     true
 }
 
-// Where both points are 0 each call gives what it gave without charges, whatever the maximums (specs/NoCharge.antt).
+// Where both points are 0 each call gives what it gives without charges, whatever the maximums (specs/NoCharge.antt).
 pub fn no_charge_no_change() -> bool
     ensures { λ r. ⌜ (r ≡ true) × NoChargeNoChange ⌝ }
+{
+    true
+}
+
+// A withdrawal from any pool, opened or built by hand, leaves at least 100 LP tokens where it is accepted (specs/Hundred.antt).
+pub fn hundred_stays() -> bool
+    ensures { λ r. ⌜ (r ≡ true) × HundredStays ⌝ }
 {
     true
 }

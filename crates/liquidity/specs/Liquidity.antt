@@ -1,13 +1,14 @@
--- Document 01, 'Deposit' (lp, two maximums) and 'Withdrawal' (lp, the owner's LP, two minimums), with document 02 (b) and (c), over the tokens'
--- charges c, the status and the books b.
+-- Document 01, 'Deposit' (lp, two maximums) and 'Withdrawal' (lp, the owner's LP, two minimums), with document 02 (b), (c) and (e), over the
+-- tokens' charges c, the status and the books b.
 use Prim.Native.Nat.{ℕ, _+_, _-_, min}
 use mathlib.Core.Bool.{Bool, true, false}
 use mathlib.Core.List.{[], _∷_}
 use lib.Dec.{ltb, eqb}
-use Rattle.refusal.specs.Refusal.{RequireViolated, NotApproved, Panic, ExceededSlippage, MathOverflow, TransferFeeCalculateNotMatch}
+use Rattle.refusal.specs.Refusal.{RequireViolated, NotApproved, Panic, ExceededSlippage, MathOverflow, TransferFeeCalculateNotMatch, LeftLpAmountTooLess}
 use Rattle.refusal.specs.Tests.{Tests, _then_, past, outcome}
 use Rattle.accounting.specs.declared.Books.{Books}
 use Rattle.accounting.specs.Counters.{net0, net1, counterTests}
+use Rattle.accounting.specs.Locked.{LockLpAmount}
 use Rattle.charge.specs.declared.Charges.{Charges}
 use Rattle.charge.specs.declared.Charged.{Charged}
 use Rattle.charge.specs.Charge.{restOf, leastSent, chargedOn}
@@ -56,7 +57,7 @@ depositAfter c status b lp maximum0 maximum1 =
 
 -- ---- withdrawal
 -- bit 1, 1; lp 0 or above the owner's, 10; 8, 7; 4; 11; amounts capped at the nets, then charged; what is received below a minimum, 2; lp above
--- supply, 11
+-- supply, 11; fewer than 100 LP are left, 15
 unfoldable pub withdrawTests : ℕ → ℕ → ℕ → ℕ → ℕ → Books → ℕ → ℕ → ℕ → ℕ → Tests
 withdrawTests amount0 amount1 received0 received1 status b lp owned minimum0 minimum1 =
     (bit 1 status, NotApproved)
@@ -67,6 +68,7 @@ withdrawTests amount0 amount1 received0 received1 status b lp owned minimum0 min
     then ((ltb received0 minimum0, ExceededSlippage)
     ∷ (ltb received1 minimum1, ExceededSlippage)
     ∷ (ltb (b .supply) lp, Panic)
+    ∷ (ltb (b .supply - lp) LockLpAmount, LeftLpAmountTooLess)
     ∷ [])))
 
 abbrev pub withdrawn : ℕ → ℕ → Charged → Books → ℕ → BooksAfter

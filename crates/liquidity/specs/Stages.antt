@@ -1,11 +1,12 @@
 -- What the private steps of this crate answer. No public definition rests on these.
-use Prim.Native.Nat.{ℕ, _+_}
+use Prim.Native.Nat.{ℕ, _+_, _-_}
 use mathlib.Core.Bool.{Bool, true, false}
 use mathlib.Core.List.{[], _∷_}
 use lib.Dec.{ltb, eqb}
-use Rattle.refusal.specs.Refusal.{RequireViolated, NotApproved, Panic, ExceededSlippage, MathOverflow, TransferFeeCalculateNotMatch}
+use Rattle.refusal.specs.Refusal.{RequireViolated, NotApproved, Panic, ExceededSlippage, MathOverflow, TransferFeeCalculateNotMatch, LeftLpAmountTooLess}
 use Rattle.refusal.specs.Tests.{Tests, _then_, past, outcome}
 use Rattle.accounting.specs.declared.Books.{Books}
+use Rattle.accounting.specs.Locked.{LockLpAmount}
 use Rattle.charge.specs.declared.Charges.{Charges}
 use Rattle.charge.specs.declared.Charged.{Charged}
 use Rattle.charge.specs.Charge.{restOf, leastSent, chargedOn}
@@ -33,12 +34,13 @@ abbrev pub roomTests : ℕ → ℕ → Books → ℕ → Tests
 roomTests amount0 amount1 b lp =
     (past (b .vault0 + amount0), MathOverflow) ∷ (past (b .vault1 + amount1), MathOverflow) ∷ (past (b .supply + lp), Panic) ∷ []
 
--- what is received below a minimum, 2; lp above supply, 11
+-- what is received below a minimum, 2; lp above supply, 11; fewer than 100 LP are left, 15
 abbrev pub withdrawLast : ℕ → ℕ → Books → ℕ → ℕ → ℕ → Tests
 withdrawLast received0 received1 b lp minimum0 minimum1 =
     (ltb received0 minimum0, ExceededSlippage)
     ∷ (ltb received1 minimum1, ExceededSlippage)
     ∷ (ltb (b .supply) lp, Panic)
+    ∷ (ltb (b .supply - lp) LockLpAmount, LeftLpAmountTooLess)
     ∷ []
 
 -- a deposit whose limits are kept

@@ -1,6 +1,7 @@
 // Deposits and withdrawals, decided over the tokens' charges, the status and the books: an LP amount's worth in both tokens is paid in, or paid
 // out.
 use accounting::Books;
+use accounting::LOCK_LP_AMOUNT;
 use charge::Charged;
 use charge::Charges;
 use curve::constant_product::LpTokens;
@@ -12,6 +13,7 @@ use receipt::amounts_receipt;
 use receipt::refuse_books;
 use refusal::ACCEPTED;
 use refusal::EXCEEDED_SLIPPAGE;
+use refusal::LEFT_LP_AMOUNT_TOO_LESS;
 use refusal::MATH_OVERFLOW;
 use refusal::NOT_APPROVED;
 use refusal::PANIC;
@@ -20,11 +22,14 @@ use refusal::either;
 use refusal::first1;
 use refusal::first2;
 use refusal::first3;
+use refusal::first4;
 use refusal::past_sum;
 use worth::worth_of;
 ghost use mathlib.Core.Path.{_≡_};
-ghost use Prim.Native.Nat.{_≤_, min};
+ghost use Prim.Native.Nat.{_-_, _≤_, min};
+ghost use lib.Dec.{ltb};
 ghost use Rattle.refusal.specs.Tests.{first};
+ghost use Rattle.accounting.specs.Locked.{LockLpAmount};
 ghost use Rattle.liquidity.specs.Liquidity.{changeAfter};
 ghost use Rattle.liquidity.specs.Stages.{frontTests, bookedDeposit, depositRest, withdrawRest};
 
@@ -109,7 +114,15 @@ fn capped(net: TradingTokens, amount: TradingTokens) -> TradingTokens
     if net.0 <= amount.0 { net } else { amount }
 }
 
-// The amounts that leave the vaults are known, capped at the nets. What is received below a minimum, 2; lp above supply, 11; else the booking.
+// Whether fewer LP tokens are left than are locked.
+fn left_too_few(supply: u64, lp: LpTokens) -> bool
+    ensures { λ r. ⌜ r ≡ ltb (supply - lp .0) LockLpAmount ⌝ }
+{
+    lp.0 > supply || supply - lp.0 < LOCK_LP_AMOUNT
+}
+
+// The amounts that leave the vaults are known, capped at the nets. What is received below a minimum, 2; lp above supply, 11; fewer than 100 LP
+// are left, 15; else the booking.
 fn withdraw_at(
     charges: Charges,
     books: Books,
@@ -123,13 +136,15 @@ fn withdraw_at(
     ensures { λ r. ⌜ r ≡ withdrawRest (paid0 .0) (paid1 .0) charges books (lp .0) (minimum0 .0) (minimum1 .0) ⌝ }
 {
     let received = charges.transfer_both(true, paid0.0, paid1.0);
-    let number = first3(
+    let number = first4(
         received.amount0 < minimum0.0,
         EXCEEDED_SLIPPAGE,
         received.amount1 < minimum1.0,
         EXCEEDED_SLIPPAGE,
         lp.0 > books.supply,
         PANIC,
+        left_too_few(books.supply, lp),
+        LEFT_LP_AMOUNT_TOO_LESS,
     );
     if number != ACCEPTED {
         return refuse_books(books, number);

@@ -23,7 +23,7 @@ use Rattle.opening.specs.declared.OpeningAfter.{OpeningAfter}
 abbrev pub supplyOf : Opening → ℕ
 supplyOf o = root (o .amount0 * o .amount1)
 
--- a supply below this is refused
+-- a supply below this is refused, so that with 100 locked (document 02 (e)) the opener gets at least 1
 abbrev pub LeastSupply : ℕ
 LeastSupply = 101
 
@@ -47,7 +47,7 @@ openingTests o =
     ∷ (ltb (supplyOf o) LeastSupply, InitLpAmountTooLess)
     ∷ []
 
--- counters start at 0; the opener holds the whole supply
+-- counters start at 0; the supply counts all LP, the locked 100 among them
 abbrev pub booksWith : ℕ → ℕ → ℕ → Books
 booksWith amount0 amount1 supply = record { vault0 = amount0; vault1 = amount1; fees = zeroCounters; supply = supply }
 

@@ -27,7 +27,7 @@ ghost use Rattle.root.specs.Root.{root};
 ghost use Rattle.refusal.specs.Tests.{first};
 ghost use Rattle.opening.specs.Opening.{openingTests, booksWith, zeroTerms, refusedOpening, openingAfter};
 
-// A supply below this is refused.
+// A supply below this is refused, so that with 100 locked the opener gets at least 1.
 const LEAST_SUPPLY: u64 = 101;
 
 // Points above this are refused.

@@ -1,8 +1,8 @@
--- Demand 3 of every day sheet, and of the numbers in its rows.
+-- Demand 3 and document 02 (e) of every day sheet, and of the numbers in its rows.
 -- Assumes nothing.
 use Prim.Native.Nat.{ℕ, zero, suc, _≤_, _<_}
-use mathlib.Core.Path.{_≡_, refl, ap, _∙_}
-use mathlib.Core.Bool.{Bool, true, false, _&&_}
+use mathlib.Core.Path.{_≡_, refl, sym, ap, _∙_}
+use mathlib.Core.Bool.{Bool, true, false, not, _&&_, true≢false}
 use mathlib.Core.List.{List, [], _∷_}
 use native.Mathlib.Omega.{arith}
 use borrow.Author.Tests.{eqb-true}
@@ -21,7 +21,7 @@ use Rattle.however_cut.proofs.Cuts.{all-taken}
 use Rattle.shipped.specs.Openings.{noOpening, HoldsAlong}
 use Rattle.shipped.specs.Day.{OpeningsSeen, stateAt, receiptsTo, receiptsBetween, writtenInCuts, DayTheorem, Opens, PrintedTheorem}
 use Rattle.shipped.specs.Written.{rowOf, rowReceipt}
-use Rattle.shipped.proofs.Went.{SoundAt, zeros-sound, went-sound, holds-along}
+use Rattle.shipped.proofs.Went.{SoundAt, zeros-sound, went-sound, went-locked, holds-along}
 use Rattle.shipped.proofs.Rows.{rows-went, openings-seen, points-went}
 use Rattle.shipped.proofs.Printed.{rows-show}
 
@@ -30,9 +30,11 @@ unfolding emptySheet
 start-sound = zeros-sound
 
 points-hold : (input : List ℕ) → HoldsAlong (stateAt input) (receiptsTo input) (receiptsBetween input)
+unfolding noOpening
 points-hold input =
     holds-along _ _ _
     (λ k. went-sound (start 0 0) (rows-went emptySheet (take k (rows input))) start-sound)
+    (λ k. went-locked [] (λ e. absurd (true≢false e)) (rows-went emptySheet (take k (rows input))))
     (λ i j l. points-went emptySheet (rows input) i j l)
 
 pub day-theorem : DayTheorem
@@ -78,6 +80,37 @@ not-opened input output k shown none =
     go true false p q = refl
     go true true p q = absurd (none (record { asks = p; shows0 = shown ∙ ap Reads (eqb-true _ _ q) }))
 
+-- a row that opens is among the rows up to a later one
+row-opened :
+    (s : Sheet) (rs : List (List ℕ)) (k i : ℕ) → k < i → k < length rs → isOpening (rowReceipt s rs k) ≡ true
+    → noOpening (receiptsOf s (take i rs)) ≡ false
+unfolding noOpening receiptsOf sheetAfter
+row-opened s rs k zero h l e = absurd (omega arith)
+row-opened s [] k (suc i) h l e = absurd (omega arith)
+row-opened s (x ∷ rs) zero (suc i) h l e = rw e
+row-opened s (x ∷ rs) (suc k) (suc i) h l e =
+    let t = perform s (readRow x) in
+    both-false (not (isOpening (t .receipt))) (row-opened (t .sheet) rs k i (omega arith) (omega arith) e)
+  where
+    both-false : (a : Bool) {b : Bool} → b ≡ false → (a && b) ≡ false
+    both-false true e = e
+    both-false false e = refl
+
+-- a row that opens, as its bytes tell
+was-opened :
+    (input output : List ℕ) (k : ℕ) → let x = rowReceipt emptySheet (rows input) k in
+    readColumn (take 2 (rowOf output k)) ≡ Reads (x .number) → Opens input output k → isOpening x ≡ true
+unfolding OpeningsSeen
+was-opened input output k shown o =
+    let r = readRow (getD (rows input) k []) in
+    let s = sheetAfter emptySheet (take k (rows input)) in
+    let x = perform s r .receipt in
+    let accepted : x .number ≡ 0 = read-back (sym shown ∙ o .shows0) in
+    openings-seen s r ∙ rw (o .asks, accepted)
+  where
+    read-back : {a b : ℕ} → Reads a ≡ Reads b → a ≡ b
+    read-back e = cc
+
 pub printed-theorem : PrintedTheorem
 unfolding PrintedTheorem DayTheorem
 printed-theorem input cuts taken i j l k a b s c d m at-i at-j =
@@ -99,4 +132,12 @@ printed-theorem input cuts taken i j l k a b s c d m at-i at-j =
           (day .holds .rise (suc i) (suc j) (omega arith)
           (none-between emptySheet (rows input) (suc i) (suc j)
           (λ q e f g. not-opened input (writtenInCuts cuts input) q (day .shows q g .number) (n q (omega arith) (omega arith)))));
+      locked = λ q e o. rw s-is (day .holds .locked (suc i) (opened q e o));
+      alive = λ q e o. rw (a-is, b-is) (day .holds .alive (suc i) (opened q e o));
     }
+  where
+    opened : (q : ℕ) → q ≤ i → Opens input (writtenInCuts cuts input) q → noOpening (receiptsTo input (suc i)) ≡ false
+    opened q e o =
+        let l : q < length (rows input) = omega arith in
+        row-opened emptySheet (rows input) q (suc i) (omega arith) l
+        (was-opened input (writtenInCuts cuts input) q (day-theorem input cuts taken .shows q l .number) o)

@@ -1,8 +1,8 @@
 -- Calls, openings and day sheets mixed in any order on one memory.
 -- Assumes nothing.
 use Prim.Native.Nat.{ℕ, zero, suc, _≤_}
-use mathlib.Core.Path.{_≡_, refl, sym, ap, _∙_}
-use mathlib.Core.Bool.{Bool, true, false}
+use mathlib.Core.Path.{_≡_, refl, sym, ap, subst, _∙_}
+use mathlib.Core.Bool.{Bool, true, false, true≢false}
 use mathlib.Core.List.{List, [], _∷_, _++_}
 use native.Mathlib.Omega.{arith}
 use borrow.Author.Tests.{eqb-true, eqb-false}
@@ -16,17 +16,18 @@ use Rattle.calls.proofs.Decisions.{zeroState, numberOf}
 use Rattle.calls.proofs.Within.{BooksFit}
 use Rattle.rows.specs.Row.{readRow}
 use Rattle.history.specs.Afresh.{Reckoning, start}
+use Rattle.history.proofs.Locked.{Locked, opening-locked}
 use Rattle.words.specs.Words.{at, openingOf}
 use Rattle.memory.specs.Memory.{openedOn}
 use Rattle.sheet.specs.Sheet.{Sheet, perform, run}
 use Rattle.sheet.specs.Turns.{sheetAfter, receiptsOf, stateIn}
 use Rattle.stream.specs.Pieces.{feed, finish, leftBy, leftAtEnd}
 use Rattle.cp_swap.specs.DaySheet.{storedPiece, fedOn, storedEnd, endedOn}
-use Rattle.shipped.specs.Openings.{reckonAll, Went, stop, calls, opens, stays}
+use Rattle.shipped.specs.Openings.{reckonAll, noOpening, Went, stop, calls, opens, stays}
 use Rattle.shipped.specs.Library.{pointIn, answered}
 use Rattle.shipped.specs.Written.{stateAfter, ShowsRows}
 use Rattle.shipped.specs.Mixed.{Lent, Use, call, opening, piece, end, openedIn, fedIn, endedIn, used, usedAll, begunIn, rowsOf, sheetHeld, sheetOf, writtenBy, receiptsBy, pointHere, pointsOf, pointsBy, receiptsByAll, pointsByAll, pointAt, HoldsMixed, RowPoints, Zeros, MixedTheorem}
-use Rattle.shipped.proofs.Went.{went-on, SoundAt, zeros-sound, opening-counted, opening-sound, went-sound, holds-along}
+use Rattle.shipped.proofs.Went.{went-on, SoundAt, zeros-sound, opening-counted, opening-sound, went-sound, went-locked, holds-along}
 use Rattle.shipped.proofs.Rows.{one-row-went}
 use Rattle.shipped.proofs.Printed.{rows-show}
 use Rattle.shipped.proofs.Holding.{Holding, holding-point, stored-number, stored-gave, refused-stays, opened-answer, called-gave, front-written, fed-on, ended-on}
@@ -201,11 +202,13 @@ reckon-append r [] ys = refl
 reckon-append r (x ∷ xs) ys = reckon-append _ xs ys
 
 uses-hold :
-    (before : List Receipt) (m : Lent) (us : List Use) → Reads m → SoundAt (reckonAll (start 0 0) before) (pointHere m) → HoldsMixed before m us
-uses-hold before m us h sound = record {
+    (before : List Receipt) (m : Lent) (us : List Use) → Reads m → SoundAt (reckonAll (start 0 0) before) (pointHere m)
+    → (noOpening before ≡ false → Locked (pointHere m)) → HoldsMixed before m us
+uses-hold before m us h sound locked = record {
   holds =
       holds-along _ _ _
       (λ k. rw (reckon-append (start 0 0) before (take k (receiptsByAll m us))) (went-sound _ (walk-starts k (whole .walk)) sound))
+      (λ k. went-locked before locked (walk-starts k (whole .walk)))
       (λ i j l. walk-went i j l (whole .walk));
   in-memory = λ k. memory-point k m us h;
   answers-call = λ k c. called-gave _ _ (here k .receipt) (pointHere (here k)) c (reads k) .answer;
@@ -229,10 +232,10 @@ unfolding zeroPool zeroEntries
 zeros-held m z = record { words = z .zero-pool; ring = z .zero-ring }
 
 from-zeros : (m : Lent) (us : List Use) → Zeros m → HoldsMixed [] m us
-unfolding reckonAll
+unfolding reckonAll noOpening
 from-zeros m us z =
     let h = zeros-held m z in
-    uses-hold [] m us (reads-at (m .pool) (m .entries) h) (rw (holding-point h) zeros-sound)
+    uses-hold [] m us (reads-at (m .pool) (m .entries) h) (rw (holding-point h) zeros-sound) (λ e. absurd (true≢false e))
 
 from-opening :
     (m : Lent) (us : List Use) (w : List ℕ) → openedIn m w .number ≡ 0
@@ -244,6 +247,7 @@ from-opening m us w z =
     let g = stored-gave (m .pool) (m .entries) (m .receipt) d′ accepted in
     uses-hold _ _ us (reads-at _ _ (g .point))
     (rw (holding-point (g .point), g .answer, opening-counted (openingOf w) accepted (start 0 0)) (opening-sound (openingOf w) accepted))
+    (λ _. subst Locked (sym (holding-point (g .point))) (opening-locked (openingOf w) accepted))
 
 pub mixed-theorem : MixedTheorem
 unfolding MixedTheorem

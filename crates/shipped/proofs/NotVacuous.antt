@@ -25,7 +25,7 @@ use Rattle.edges.specs.Example.{bytesThen, rowsOf, input, output}
 use Rattle.edges.proofs.Example.{example}
 use Rattle.shipped.specs.Openings.{noOpening}
 use Rattle.shipped.specs.Library.{receiptsIn}
-use Rattle.shipped.specs.Day.{receiptsBetween, Opens, Found}
+use Rattle.shipped.specs.Day.{receiptsTo, receiptsBetween, Opens, Found}
 use Rattle.shipped.specs.Mixed.{Lent, Use, call, opening, piece, end, used, newlines, receiptsBy, receiptsByAll}
 
 abbrev kinds : List Receipt → List ℕ
@@ -50,6 +50,11 @@ calls-accepted = refl
 pub one-opening : noOpening (receiptsBetween (rowsOf input) 2 3) ≡ true
 unfolding all first readDigits inRange readColumn readRow rowsFrom emptySheet keepRates replaced perform bytesThen rowsOf input sheetAfter receiptsOf noOpening
 one-opening = refl
+
+-- and point 2 is after an accepted opening
+pub opened-by-then : noOpening (receiptsTo (rowsOf input) 2) ≡ false
+unfolding all first readDigits inRange readColumn readRow rowsFrom emptySheet keepRates replaced perform bytesThen rowsOf input sheetAfter receiptsOf noOpening
+opened-by-then = refl
 
 -- as its bytes tell: row 1 opens, row 2 does not
 pub second-row-opens : Opens (rowsOf input) (daySheet (rowsOf input)) 1

@@ -2,7 +2,7 @@
 -- Assumes nothing.
 use Prim.Native.Nat.{ℕ, _≤_}
 use mathlib.Core.Path.{_≡_, refl, sym, ap, _∙_}
-use mathlib.Core.Bool.{Bool, true, false, cond, not, _&&_, false≢true}
+use mathlib.Core.Bool.{Bool, true, false, cond, not, _&&_, false≢true, true≢false}
 use mathlib.Core.List.{List, [], _∷_, _++_}
 use native.Mathlib.Omega.{arith}
 use lib.Dec.{eqb}
@@ -21,6 +21,7 @@ use Rattle.history.specs.Afresh.{Reckoning, start, reckonOne, reckon, counted}
 use Rattle.history.specs.Demand3.{heldBooks, product, supply²}
 use Rattle.history.proofs.Products.{floor-goes-on}
 use Rattle.history.proofs.Kept.{Sound, held}
+use Rattle.history.proofs.Locked.{Locked, call-locked, opening-locked, both-alive}
 use Rattle.history.proofs.ListTheorem.{run-keeps, opening-keeps}
 use Rattle.sheet.specs.Turns.{isOpening}
 use Rattle.shipped.specs.Openings.{reckonNext, reckonAll, noOpening, Went, stop, calls, opens, stays, ofCalls, Runs, HoldsAlong}
@@ -123,18 +124,49 @@ went-runs (stays k f) n =
     let more = went-runs f (none-opens _ _ n .1) in
     record { receipts = more .receipts; ran = more .ran; same = more .same ∙ sym (refusal-dropped k _) }
 
+-- ---- the hundred that stays: nothing takes it away, and an accepted opening brings it
+went-keeps-locked : {s s′ : State} {xs : List Receipt} → Went s xs s′ → Locked s → Locked s′
+went-keeps-locked stop h = h
+went-keeps-locked {s} (calls c f) h = went-keeps-locked f (call-locked s c h)
+went-keeps-locked (opens o z f) h = went-keeps-locked f (opening-locked o z)
+went-keeps-locked (stays n f) h = went-keeps-locked f h
+
+once-opened : {s s′ : State} {xs : List Receipt} → Went s xs s′ → noOpening xs ≡ false → Locked s′
+unfolding noOpening refusal
+once-opened stop e = absurd (true≢false e)
+once-opened {s} (calls c f) e = once-opened f (rw (call-kind s c) at e)
+once-opened (opens o z f) e = went-keeps-locked f (opening-locked o z)
+once-opened (stays n f) e = once-opened f e
+
+-- with what was there before
+pub went-locked :
+    {s s′ : State} {xs : List Receipt} (before : List Receipt) → (noOpening before ≡ false → Locked s) → Went s xs s′
+    → noOpening (before ++ xs) ≡ false → Locked s′
+unfolding noOpening
+went-locked [] h f e = once-opened f e
+went-locked {s} {s′} {xs} (x ∷ before) h f e = go (isOpening x) h e (λ h e. went-locked before h f e)
+  where
+    go :
+        (b : Bool) → (not b && noOpening before ≡ false → Locked s) → not b && noOpening (before ++ xs) ≡ false
+        → ((noOpening before ≡ false → Locked s) → noOpening (before ++ xs) ≡ false → Locked s′) → Locked s′
+    go true h e rest = went-keeps-locked f (h refl)
+    go false h e rest = rest h e
+
 -- ---- points that follow each other so
 pub holds-along :
     (point : ℕ → State) (receipts : ℕ → List Receipt) (between : ℕ → ℕ → List Receipt)
     → ((k : ℕ) → SoundAt (reckonAll (start 0 0) (receipts k)) (point k))
+    → ((k : ℕ) → noOpening (receipts k) ≡ false → Locked (point k))
     → ((i j : ℕ) → i ≤ j → Went (point i) (between i j) (point j))
     → HoldsAlong point receipts between
-holds-along point receipts between at went = record {
+holds-along point receipts between at locked went = record {
   went = went;
   runs = runs;
   afresh = λ i. ap (λ (r : Reckoning). r .books) (at i .reckoned);
   floor = λ i. at i .floor;
   rise = λ i j h n. run-keeps (runs i j h n .ran) (at i .sound) .grows .rise;
+  locked = locked;
+  alive = λ i e. both-alive (point i) (at i .floor) (locked i e);
 }
   where
     runs : (i j : ℕ) → i ≤ j → noOpening (between i j) ≡ true → Runs (point i) (between i j) (point j)

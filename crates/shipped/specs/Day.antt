@@ -1,11 +1,12 @@
--- Demand 3 of a day sheet, whatever its bytes: its rows are calls in turn, an accepted opening starts anew, and every other row leaves pool
--- and ring alone. What holds of its points holds of the numbers in the rows that are written, however the input is cut.
+-- Demand 3 and document 02 (e) of a day sheet, whatever its bytes: its rows are calls in turn, an accepted opening starts anew, and every other
+-- row leaves pool and ring alone. What holds of its points holds of the numbers in the rows that are written, however the input is cut.
 use Prim.Native.Nat.{ℕ, _*_, _≤_, _<_}
 use mathlib.Core.Path.{_≡_}
 use mathlib.Core.Bool.{true, _&&_}
 use mathlib.Core.List.{List, [], _++_}
 use lib.Dec.{eqb}
 use lib.ListN.{length, take, drop, getD}
+use Rattle.accounting.specs.Locked.{LockLpAmount}
 use Rattle.receipt.specs.declared.Receipt.{Receipt}
 use Rattle.calls.specs.Next.{State}
 use Rattle.columns.specs.declared.Reading.the-variants.{Reads}
@@ -61,11 +62,13 @@ pub record Found (output : List ℕ) (k net0 net1 supply : ℕ) : Type 0 where
   pub in-net1 : columnAt (rowOf output k) 3 ≡ Reads net1
   pub in-supply : columnAt (rowOf output k) 4 ≡ Reads supply
 
--- nets a and b with supply l in row i, nets c and d with supply m in row j: the floor in row i, and the rise from it to row j where no row
--- after i up to j opens
+-- nets a and b with supply l in row i, nets c and d with supply m in row j: the floor in row i; the rise from it to row j where no row after i up
+-- to j opens; and where a row up to i opens, a supply of at least 100 and both nets above 0 in row i
 pub record InOrder (input output : List ℕ) (i a b l j c d m : ℕ) : Type 0 where
   pub floor : l * l ≤ a * b
   pub rise : ((k : ℕ) → i < k → k ≤ j → Opens input output k → ⊥) → a * b * (m * m) ≤ c * d * (l * l)
+  pub locked : (k : ℕ) → k ≤ i → Opens input output k → LockLpAmount ≤ l
+  pub alive : (k : ℕ) → k ≤ i → Opens input output k → (0 < a) × (0 < b)
 
 unfoldable pub PrintedTheorem : Type 0
 PrintedTheorem =

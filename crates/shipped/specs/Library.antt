@@ -1,5 +1,5 @@
--- Demand 3 in a caller's memory: an accepted opening, and then any list of the library's six calls, each on record, ring and receipt as
--- the call before it left them.
+-- Demand 3 and document 02 (e) in a caller's memory: an accepted opening, and then any list of the library's six calls, each on record, ring and
+-- receipt as the call before it left them.
 use Prim.Native.Nat.{ℕ, _≤_}
 use mathlib.Core.Path.{_≡_}
 use mathlib.Core.List.{List, [], _∷_, map}
@@ -40,7 +40,7 @@ receiptsIn m (c ∷ cs) = answered (calledNext m c) ∷ receiptsIn (calledNext m
 pub record HoldsInMemory (amount0 amount1 : ℕ) (opened : Memory) (start : State) (calls : List Call) : Type 0 where
   -- each receipt is the one that document 01's definitions give
   pub receipts-right : (k : ℕ) → receiptsIn opened (take k calls) ≡ receipts start (map call (take k calls))
-  -- and the three things hold of what the memory holds, at any point i and between it and any later point j
+  -- and all that the list theorem says is true of what the memory holds, at any point i and between it and any later point j
   pub holds :
       (i j : ℕ) → i ≤ j
       → Holds amount0 amount1 (receiptsIn opened (take i calls)) (pointOf (memoryAfter opened (take i calls))) (pointOf (memoryAfter opened (take j calls)))

@@ -1,4 +1,4 @@
--- Demand 3 of one memory on which calls, openings and day sheets are mixed in any order.
+-- Demand 3 and document 02 (e) of one memory on which calls, openings and day sheets are mixed in any order.
 use Prim.Native.Nat.{ℕ, zero, suc, _/_, _≤_}
 use mathlib.Core.Path.{_≡_}
 use mathlib.Core.Bool.{cond}

@@ -1,12 +1,14 @@
--- Demand 3 of a pool that may be opened more than once: its points, and the receipts of all that was asked of it.
-use Prim.Native.Nat.{ℕ, _*_, _≤_}
+-- Demand 3 and document 02 (e) of a pool that may be opened more than once: its points, and the receipts of all that was asked of it.
+use Prim.Native.Nat.{ℕ, _*_, _≤_, _<_}
 use mathlib.Core.Path.{_≡_}
-use mathlib.Core.Bool.{Bool, true, cond, not, _&&_}
+use mathlib.Core.Bool.{Bool, true, false, cond, not, _&&_}
 use mathlib.Core.List.{List, [], _∷_}
 use lib.Dec.{eqb}
+use Rattle.accounting.specs.Locked.{LockLpAmount}
 use Rattle.opening.specs.declared.Opening.{Opening}
 use Rattle.receipt.specs.declared.Receipt.{Receipt}
 use Rattle.receipt.specs.Receipt.{refusal}
+use Rattle.pool.specs.State.{net0, net1}
 use Rattle.pool.specs.Calls.{opening}
 use Rattle.calls.specs.declared.Call.{Call}
 use Rattle.calls.specs.Next.{State, next, left}
@@ -69,3 +71,7 @@ pub record HoldsAlong (point : ℕ → State) (receipts : ℕ → List Receipt) 
   -- later supply squared
   pub rise :
       (i j : ℕ) → i ≤ j → noOpening (between i j) ≡ true → product (point i) * supply² (point j) ≤ product (point j) * supply² (point i)
+  -- at every point after an accepted opening the LP supply is at least 100
+  pub locked : (i : ℕ) → noOpening (receipts i) ≡ false → LockLpAmount ≤ point i .pool .books .supply
+  -- and both nets are above 0
+  pub alive : (i : ℕ) → noOpening (receipts i) ≡ false → (0 < net0 (point i .pool)) × (0 < net1 (point i .pool))

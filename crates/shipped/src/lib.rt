@@ -1,4 +1,4 @@
-// Demand 3 of what people run, each claim carried by a contract.
+// Demand 3 and document 02 (e) of what people run, each claim carried by a contract.
 ghost use Rattle.shipped.specs.Day.{OpeningsSeen, DayTheorem, PrintedTheorem};
 ghost use Rattle.shipped.specs.DayMemory.{DayMemoryTheorem};
 ghost use Rattle.shipped.specs.Library.{LibraryTheorem};

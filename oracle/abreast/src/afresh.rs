@@ -2,6 +2,7 @@
 //! receipts in turn, with nothing taken from pool or ring.
 
 use crate::wide::product;
+use record::LOCKED_LP;
 
 /// Where a receipt of the port has its numbers.
 const KIND: usize = 1;
@@ -110,9 +111,12 @@ impl Books {
     }
 }
 
-/// The product of the nets and the supply squared, at one point of a list.
+/// The nets and the supply, with the product of the former and the square of the latter, at one point of
+/// a list.
 #[derive(Clone, Copy)]
 pub struct Point {
+    nets: [u128; 2],
+    supply: u128,
     product: u128,
     squared: u128,
 }
@@ -120,8 +124,23 @@ pub struct Point {
 impl Point {
     /// None where the counters are above a vault.
     pub fn of(books: &Books) -> Option<Point> {
-        let [net_0, net_1] = books.nets()?;
-        Some(Point { product: net_0 * net_1, squared: books.supply * books.supply })
+        let (nets, supply) = (books.nets()?, books.supply);
+        Some(Point { nets, supply, product: nets[0] * nets[1], squared: supply * supply })
+    }
+
+    /// Document 02 (e): the supply is at least 100.
+    pub fn locked_stay(self) -> bool {
+        self.supply >= LOCKED_LP.into()
+    }
+
+    /// Just the locked LP are left.
+    pub fn is_drained(self) -> bool {
+        self.supply == LOCKED_LP.into()
+    }
+
+    /// Document 02 (e): both nets are above 0.
+    pub fn nets_are_above_0(self) -> bool {
+        !self.nets.contains(&0)
     }
 
     /// The supply squared is at most the product of the nets.

@@ -4,10 +4,13 @@
 use beside::generator::charges::Charges;
 use beside::generator::list;
 use beside::random::Random;
-use record::{Case, Opening, Rates, State};
+use record::{Case, Opening, Rates, State, LOCKED_LP};
 
 /// One list in so many is at a rate sum of 0.
 const FREE_ONE_IN: u64 = 8;
+/// One withdrawal in so many leaves just the locked LP, and one in so many would leave fewer.
+const DRAINED_ONE_IN: u64 = 200;
+const REFUSED_ONE_IN: u64 = 10;
 
 pub fn opening(random: &mut Random, charges: Charges) -> Case {
     let amounts = [1_000_000 + (random.word() >> random.below(40)) / 4, 1_000_000 + random.sized() / 4];
@@ -24,7 +27,7 @@ pub fn call(random: &mut Random, state: &State) -> Case {
         0..7 => (2, swap(random, state, 2)),
         7..14 => (3, swap(random, state, 3)),
         14..16 => (4, vec![some_of(random, state.pool.supply), u64::MAX, u64::MAX]),
-        16..18 => (5, vec![some_of(random, state.pool.supply), u64::MAX, 0, 0]),
+        16..18 => (5, vec![withdrawn(random, state.pool.supply), u64::MAX, 0, 0]),
         18 => (6, vec![random.below(1_000_001)]),
         _ => (7, vec![random.below(3), u64::from(random.chance(20))]),
     };
@@ -39,6 +42,16 @@ fn swap(random: &mut Random, state: &State, kind: u64) -> Vec<u64> {
     let limit = if random.chance(10) { random.near(amount) } else { wide };
     let clock = state.pool.head.mark + random.below(40);
     vec![direction, amount, limit, clock]
+}
+
+fn withdrawn(random: &mut Random, supply: u64) -> u64 {
+    if random.chance(DRAINED_ONE_IN) {
+        supply.saturating_sub(LOCKED_LP)
+    } else if random.chance(REFUSED_ONE_IN) {
+        supply.saturating_sub(random.below(LOCKED_LP))
+    } else {
+        some_of(random, supply)
+    }
 }
 
 /// Up to a sixteenth.

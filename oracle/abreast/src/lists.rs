@@ -1,5 +1,5 @@
-//! Lists of calls from openings, carried on by the port's own memory, with demand 3's three claims
-//! checked at every point.
+//! Lists of calls from openings, carried on by the port's own memory, with demand 3's three claims and
+//! the two of document 02 (e) checked at every point.
 
 use crate::afresh::{Afresh, Books, Point};
 use crate::gentle;
@@ -52,6 +52,7 @@ impl Lists {
                 return;
             }
         }
+        tally.drained_lists += u64::from(claims.points.last().is_some_and(|point| point.is_drained()));
     }
 
     fn next_call(&mut self, case: &Case, claims: &mut Claims, tally: &mut Tally) {
@@ -74,7 +75,7 @@ struct Claims {
 }
 
 impl Claims {
-    /// At the point after this call: afresh, floor, and rise from every earlier point.
+    /// At the point after this call: afresh, floor, what stays, and rise from every earlier point.
     fn check(&mut self, port: &Port, case: &Case, tally: &mut Tally) {
         let held = Books::held(&port.pool, &port.ring);
         if held != self.afresh.books {
@@ -86,10 +87,17 @@ impl Claims {
         if !point.floor_holds() {
             tally.claim_fault("the supply squared is above the product of the nets", case);
         }
+        if !point.locked_stay() {
+            tally.claim_fault("the supply is below 100", case);
+        }
+        if !point.nets_are_above_0() {
+            tally.claim_fault("a net is 0", case);
+        }
         if !self.points.iter().all(|earlier| point.rises_from(*earlier)) {
             tally.claim_fault("a share's worth falls", case);
         }
         tally.points += 1;
+        tally.drained_points += u64::from(point.is_drained());
         tally.pairs += self.points.len() as u64;
         self.points.push(point);
     }

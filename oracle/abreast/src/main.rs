@@ -12,7 +12,7 @@ mod wide;
 use beside::generator::charges::{self, Charges};
 use beside::generator::small;
 use beside::random::Random;
-use beside::{differences, edges, late};
+use beside::{bounds, differences, edges, late};
 use std::process::ExitCode;
 use tally::Tally;
 
@@ -47,13 +47,13 @@ fn all_small() -> Tally {
     tally
 }
 
-/// The edges and the rows of docs/DIFFERENCES.md; then as many calls at points 0 as are asked for, and
-/// more on pools with charges, where the original is not asked.
+/// The edges, the bounds and the rows of docs/DIFFERENCES.md; then as many calls at points 0 as are asked
+/// for, and more on pools with charges, where the original is not asked.
 fn compared(seed: u64, count: u64) -> Tally {
     let charged = count / CHARGED_ONE_FOR;
     let mut random = Random::new(seed);
     let mut tally = Tally::of(count + charged);
-    for case in [edges::cases(), differences::cases(), late::cases()].concat() {
+    for case in [edges::cases(), bounds::cases(), differences::cases(), late::cases()].concat() {
         by_hand::run_case(&case, &mut tally);
     }
     generated(&mut random, charges::none, &mut tally, |tally| tally.calls - tally.charged_calls >= count);

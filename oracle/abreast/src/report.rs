@@ -5,7 +5,7 @@ use beside::verdict::Side;
 use std::fmt::Write;
 
 const KINDS: [u64; 7] = [1, 2, 3, 4, 5, 6, 7];
-const GREATEST_NUMBER: u64 = 14;
+const GREATEST_NUMBER: u64 = 15;
 
 pub fn page(tally: &Tally, command: &str) -> String {
     let mut page = String::new();
@@ -34,12 +34,15 @@ fn sentence(tally: &Tally, command: &str) -> String {
 
 fn port_side(tally: &Tally) -> String {
     let [output, input, deposit] = tally.fourteens.map(grouped);
+    let [all, one_more] = tally.fifteens.map(grouped);
     format!(
         "- the port beside the rules, every number of receipt, pool and ring: **{} differences**; \
          {} more calls on records with a wrong flag, each refused with 3; \
-         14 for a swap's output {output} times, for its input {input}, for a deposit {deposit}",
+         14 for a swap's output {output} times, for its input {input}, for a deposit {deposit}; \
+         {} withdrawals left just 100 LP, 15 for all LP {all} times, for one more than may be {one_more}",
         tally.port_faults,
         grouped(tally.wrong_flags),
+        grouped(tally.drained),
     )
 }
 
@@ -55,19 +58,22 @@ fn original_side(tally: &Tally) -> String {
 fn claims(tally: &Tally) -> String {
     format!(
         "- demand 3's claims over {} lists ({} calls, {} rounds of the ring; {} lists and {} calls of these \
-         with charges): {} points afresh and floor, {} pairs of points rise, **{} failures**",
+         with charges): {} points afresh, floor, supply at least 100 and nets above 0 ({} points at just \
+         100, with which {} lists end), {} pairs of points rise, **{} failures**",
         grouped(tally.lists),
         grouped(tally.list_calls),
         grouped(tally.ring_rounds),
         grouped(tally.charged_lists),
         grouped(tally.charged_list_calls),
         grouped(tally.points),
+        grouped(tally.drained_points),
+        grouped(tally.drained_lists),
         grouped(tally.pairs),
         tally.claim_faults,
     )
 }
 
-/// What was not put to the original, by reason.
+/// What was not compared with the original, by reason.
 fn left(tally: &Tally) -> String {
     let counts = tally.left.0.iter().map(|(left, count)| format!("{} calls, {left}", grouped(*count)));
     counts.collect::<Vec<_>>().join("; ")

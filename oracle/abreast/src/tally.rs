@@ -2,16 +2,17 @@
 
 use crate::sides::Fault;
 use beside::generator::charges::most_arriving;
-use beside::left::LeftCounts;
+use beside::left::{is_as_told, LeftCounts};
 use beside::page;
 use beside::verdict::Side;
-use record::{Call, Case, Left};
+use record::{Call, Case, Left, LOCKED_LP};
 use std::collections::BTreeMap;
 use std::time::Instant;
 
 /// Faults past this number are only counted.
 const KEPT_FAULTS: usize = 20;
 const PROGRESS_EVERY: u64 = 500_000;
+const ONE_TOO_FEW: u64 = LOCKED_LP - 1;
 
 pub struct Class {
     pub side: Side,
@@ -32,8 +33,11 @@ pub struct Tally {
     pub charged_answers: Answers,
     /// Where 14 was answered: for a swap's output, its input, a deposit.
     pub fourteens: [u64; 3],
+    /// Withdrawals that left just the locked LP, and those refused with 15: for all LP, for one too many.
+    pub drained: u64,
+    pub fifteens: [u64; 2],
     pub classes: BTreeMap<String, Class>,
-    /// Calls that were not put to the original.
+    /// Calls that were not compared with the original.
     pub left: LeftCounts,
     /// Calls on records with a flag that is neither 0 nor 1.
     pub wrong_flags: u64,
@@ -45,6 +49,9 @@ pub struct Tally {
     pub ring_rounds: u64,
     pub points: u64,
     pub pairs: u64,
+    /// Points with just the locked LP, and lists that end with one.
+    pub drained_points: u64,
+    pub drained_lists: u64,
     pub port_faults: u64,
     pub original_faults: u64,
     pub claim_faults: u64,
@@ -61,6 +68,8 @@ impl Tally {
             answers: BTreeMap::new(),
             charged_answers: BTreeMap::new(),
             fourteens: [0; 3],
+            drained: 0,
+            fifteens: [0; 2],
             classes: BTreeMap::new(),
             left: LeftCounts::default(),
             wrong_flags: 0,
@@ -71,6 +80,8 @@ impl Tally {
             ring_rounds: 0,
             points: 0,
             pairs: 0,
+            drained_points: 0,
+            drained_lists: 0,
             port_faults: 0,
             original_faults: 0,
             claim_faults: 0,
@@ -94,9 +105,22 @@ impl Tally {
         if number == 14 {
             self.fourteens[place_of_14(case)] += 1;
         }
+        if let Some(Call::Withdrawal { lp, .. }) = case.call() {
+            self.count_left(number, lp, case.pool().supply);
+        }
         self.calls += 1;
         if self.calls.is_multiple_of(PROGRESS_EVERY) {
             self.print_progress();
+        }
+    }
+
+    /// What an accepted withdrawal left, or one that is refused with 15 would have.
+    fn count_left(&mut self, number: u64, lp: u64, supply: u64) {
+        match (number, supply.checked_sub(lp)) {
+            (0, Some(LOCKED_LP)) => self.drained += 1,
+            (15, Some(0)) => self.fifteens[0] += 1,
+            (15, Some(ONE_TOO_FEW)) => self.fifteens[1] += 1,
+            _ => {}
         }
     }
 
@@ -120,11 +144,11 @@ impl Tally {
         }
     }
 
-    /// Where document 02 gives such cases one number, the rules' is that one.
+    /// A case of which document 02 says otherwise should not have been left.
     pub fn left_to_model(&mut self, left: Left, number: u64, case: &Case) {
         self.left.add(left);
-        if left.number().is_some_and(|told| told != number) {
-            self.original_fault(format!("{left}: the rules give {number}"), case);
+        if !is_as_told(left, case, number) {
+            self.original_fault(format!("{left}: not so, where the rules give {number}"), case);
         }
     }
 

@@ -4,6 +4,7 @@
 
 mod charges;
 mod division;
+mod locked;
 
 use crate::left::LeftCounts;
 use crate::verdict::{verdict, Side};
@@ -60,7 +61,7 @@ fn bounds() -> Vec<Bound> {
         lp_tokens(),
         bookings(),
     ];
-    let requested = charges::bounds().into_iter().chain(division::bounds());
+    let requested = [charges::bounds(), division::bounds(), locked::bounds()].into_iter().flatten();
     named.into_iter().flatten().chain(requested).flat_map(Bound::with_mirror).collect()
 }
 
@@ -584,17 +585,19 @@ fn deposits() -> Vec<Bound> {
 
 fn withdrawals() -> Vec<Bound> {
     let pool = |vaults, supply| Pool { vaults, supply, ..day() };
-    let hundred = pool([1000, 1000], 100);
+    let (hundred, two_hundred) = (pool([1000, 1000], 100), pool([1000, 1000], 200));
     let withdrawal = |pool, lp, minimum| on(pool, 5, &[lp, lp, minimum, 0]);
     vec![
         bound("200 of supply 100, nets 1,000, minimum 1,500", 2, withdrawal(hundred, 200, 1500)),
         bound("200 of supply 100, nets 1,000, minimum 1,000", 11, withdrawal(hundred, 200, 1000)),
-        bound("the whole supply", 0, withdrawal(hundred, 100, 1000)),
+        bound("the whole supply", 15, withdrawal(hundred, 100, 1000)),
         bound("the whole supply, minimum one above", 2, withdrawal(hundred, 100, 1001)),
+        bound("half of the supply of 200", 0, withdrawal(two_hundred, 100, 500)),
+        bound("half of the supply of 200, minimum one above", 2, withdrawal(two_hundred, 100, 501)),
         bound("one above the supply", 11, withdrawal(hundred, 101, 0)),
         bound("one above the worked day's supply", 11, on(day(), 5, &[2_000_001, 2_000_001, 0, 0])),
-        bound("one above the owner's", 10, on(hundred, 5, &[11, 10, 0, 0])),
-        bound("all of the owner's", 0, on(hundred, 5, &[10, 10, 0, 0])),
+        bound("one above the owner's", 10, on(two_hundred, 5, &[11, 10, 0, 0])),
+        bound("all of the owner's", 0, on(two_hundred, 5, &[10, 10, 0, 0])),
         bound("an amount of 2^64 - 1, capped, below the minimum", 2, withdrawal(pool([1, 1], 1), MOST, 2)),
         bound("an amount of 2^64, below the minimum", 11, withdrawal(pool([2, 1], 1), HALF, 3)),
         bound("an amount of 0, the other past u64", 4, withdrawal(pool([0, 10], 1), HALF, 3)),

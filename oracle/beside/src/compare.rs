@@ -98,7 +98,7 @@ fn report(tally: Tally) -> bool {
     println!();
     tally.left.print();
     let compared = tally.cases - tally.left.sum();
-    println!("{} unlisted differences, with {compared} cases put to the original", tally.unlisted);
+    println!("{} unlisted differences, with {compared} cases compared with the original", tally.unlisted);
     tally.unlisted == 0
 }
 

@@ -1,5 +1,5 @@
 //! The rows of docs/DIFFERENCES.md, run: each with what the Rust does and what the rules answer.
-//! Part G has what the Rust no longer decides, and only there it is asked nevertheless.
+//! Part G has what the Rust no longer decides, where it is asked nevertheless.
 
 use crate::left::LeftCounts;
 use record::{Case, Left, State, POOL_COLUMNS, POOL_LENGTH};
@@ -58,6 +58,7 @@ fn rows() -> Vec<Row> {
         charged_swaps_out(),
         charged_liquidity(),
         charges(),
+        locked(),
     ]
     .into_iter()
     .flatten()
@@ -292,6 +293,11 @@ fn on_charged(pool: &[(&str, u64)], token: usize, kind: u64, arguments: &[u64]) 
     on(&[pool, &COLUMNS[token].map(|column| (column, 1))].concat(), kind, arguments)
 }
 
+/// Both nets and the supply are this.
+fn even(number: u64) -> [(&'static str, u64); 3] {
+    [("vault 0", number), ("vault 1", number), ("supply", number)]
+}
+
 /// Swaps by input of a charged token or for one, 02 (c): the Rust's tokens bear no charges.
 fn charged_swaps_in() -> Vec<Row> {
     let one_by_two = [("vault 0", 1), ("vault 1", 2), ("trade rate", 1)];
@@ -330,9 +336,10 @@ const ONE_RECEIVED: [(&str, u64); 3] = [("out 1", 2), ("charge 1", 1), ("vault 1
 
 /// Deposits, withdrawals and settlements, 02 (c).
 fn charged_liquidity() -> Vec<Row> {
-    let lp = [("vault 0", 1), ("vault 1", 1), ("supply", 1)];
     let owed = [("vault 1", 1), ("creator 1", 1)];
-    let one = |token, kind, arguments: &[u64]| on_charged(&lp, token, kind, arguments);
+    let one = |token, kind, arguments: &[u64]| on_charged(&even(1), token, kind, arguments);
+    // Of as many LP one can be withdrawn.
+    let least = |arguments: &[u64]| on_charged(&even(101), 0, 5, arguments);
     let rows = vec![
         row("G26", one(0, 4, &[1, MOST, MOST]), "accepts", 0).shows(&[
             ("in 0", 1),
@@ -341,12 +348,12 @@ fn charged_liquidity() -> Vec<Row> {
         ]),
         row("G27", one(0, 4, &[1, 1, MOST]), "accepts", 2),
         row("G28", one(0, 4, &[MOST, MOST, MOST]), "8 of the stand-in", 14),
-        row("G29", one(0, 5, &[1, 1, 0, 0]), "accepts", 0).shows(&[
+        row("G29", least(&[1, 1, 0, 0]), "accepts", 0).shows(&[
             ("out 0", 1),
             ("charge 0", 1),
-            ("vault 0", 0),
+            ("vault 0", 100),
         ]),
-        row("G30", one(0, 5, &[1, 1, 1, 0]), "accepts", 2),
+        row("G30", least(&[1, 1, 1, 0]), "accepts", 2),
         row("G31", on_charged(&owed, 1, 6, &[0]), "accepts", 0).shows(&[
             ("out 1", 1),
             ("charge 1", 1),
@@ -365,6 +372,20 @@ fn charges() -> Vec<Row> {
     ];
     let mut rows = left_to_model(alone, Left::Charge);
     rows.push(row("G35", opening([101, 101], 10_000), "has none", 3));
+    rows
+}
+
+/// Withdrawals that leave fewer than 100 LP, 02 (e). With charges (c) leaves them already.
+fn locked() -> Vec<Row> {
+    let withdrawal = |supply, lp| on(&even(supply), 5, &[lp, lp, 0, 0]);
+    let uncharged = vec![
+        row("G36", withdrawal(1, 1), "accepts", 15).shows(&[("vault 0", 1), ("vault 1", 1), ("supply", 1)]),
+        row("G37", withdrawal(100, 1), "accepts", 15).shows(&[("vault 0", 100), ("supply", 100)]),
+        row("G38", withdrawal(101, 2), "accepts", 15).shows(&[("vault 0", 101), ("supply", 101)]),
+    ];
+    let charged = vec![row("G39", on_charged(&even(1), 0, 5, &[1, 1, 0, 0]), "accepts", 15)];
+    let mut rows = left_to_model(uncharged, Left::LockedLp);
+    rows.extend(left_to_model(charged, Left::Charge));
     rows
 }
 

@@ -1,5 +1,5 @@
-//! Document 01's worked example and its edges, with document 02 (a), (b) and (c), answered by both sides.
-//! Openings are added by document 01, so there the original has no answer.
+//! Document 01's worked example and its edges, with document 02 (a), (b), (c) and (e), answered by both
+//! sides. Openings are added by document 01, so there the original has no answer.
 
 use crate::left::LeftCounts;
 use crate::verdict::{verdict, Side};
@@ -49,6 +49,7 @@ fn edges() -> Vec<Edge> {
         charged_swaps(),
         charged_liquidity(),
         charges(),
+        locked(),
         openings(),
         rate_limits(),
         ring(),
@@ -245,6 +246,23 @@ fn charges() -> Vec<Edge> {
     ]
 }
 
+/// Of the worked opening's LP and of the least opening's, 100 stay.
+fn locked() -> Vec<Edge> {
+    let (worked, least) = (opened(0, 0, RATES), after(&opening([101, 101], 0, 0, RATES)));
+    let of = |pool: &State, lp, minimum_0| Case::of_call(pool, 5, &[lp, lp, minimum_0, 0]);
+    let most = [("out 0", 999_950), ("out 1", 3_999_800), ("lp", 1_999_900), ("supply", 100)];
+    let one = [("out 0", 1), ("out 1", 1), ("lp", 1), ("supply", 100)];
+    vec![
+        edge("withdrawal of 1,999,900 leaves 100 LP", of(&worked, 1_999_900, 0), 0, &most),
+        edge("withdrawal of 1,999,901 is 15", of(&worked, 1_999_901, 0), 15, &[]),
+        edge("withdrawal of all 2,000,000 is 15", of(&worked, 2_000_000, 0), 15, &[]),
+        edge("withdrawal of 2,000,001 is 11", of(&worked, 2_000_001, 0), 11, &[]),
+        edge("withdrawal of 1,999,901, minimum 999,951, is 2", of(&worked, 1_999_901, 999_951), 2, &[]),
+        edge("opening 101 by 101, withdrawal of 1 leaves 100 LP", of(&least, 1, 0), 0, &one),
+        edge("opening 101 by 101, withdrawal of 2 is 15", of(&least, 2, 0), 15, &[]),
+    ]
+}
+
 fn openings() -> Vec<Edge> {
     vec![
         edge("opening 100 by 100 is 13", opening([100, 100], 0, 0, RATES), 13, &[]),
@@ -336,6 +354,7 @@ impl Edge {
         let ruled_alone = verdict.class == "rates past the limits";
         let original_says = match original {
             None if verdict.side == Side::Left => "no longer decides",
+            None if verdict.side == Side::Unlisted => "FAIL",
             None => "has no such call",
             Some(true) => "ok",
             Some(false) if ruled_alone => "has no such limit",
@@ -343,7 +362,7 @@ impl Edge {
         };
         let document_says = if document { "ok" } else { "FAIL" };
         println!("{:66} original {original_says}, rules {document_says}", self.says);
-        document && (original != Some(false) || ruled_alone)
+        document && verdict.side != Side::Unlisted && (original != Some(false) || ruled_alone)
     }
 
     fn is_met(&self, answer: &Answer) -> bool {

@@ -155,19 +155,14 @@ impl Late {
     }
 }
 
-/// What all LP tokens are worth before and after, had nothing been rolled back.
+/// What all LP tokens are worth before and after, had nothing been rolled back: the nets.
 fn print_loss(state: &State, booked: &[Change]) {
-    let left = State { pool: with_changes(&state.pool, booked), ring: state.ring };
-    let lp = state.pool.supply;
-    let withdrawal = Call::Withdrawal { lp, owned: lp, minimums: [0, 0] };
-    let describe = |state: &State| {
-        let after = model::run(state, &withdrawal);
-        match after.number {
-            0 => format!("{:?}", after.receipt.paid_out),
-            number => format!("refusal {number}"),
-        }
+    let worth = |pool: &Pool| match model::calls::nets(pool) {
+        Ok(nets) => format!("{nets:?}"),
+        Err(number) => format!("refusal {number}"),
     };
-    println!("  all LP tokens withdraw {} before it, {} after it\n", describe(state), describe(&left));
+    let (before, after) = (worth(&state.pool), worth(&with_changes(&state.pool, booked)));
+    println!("  all LP tokens are worth {before} before it, {after} after it\n");
 }
 
 fn with_changes(pool: &Pool, booked: &[Change]) -> Pool {

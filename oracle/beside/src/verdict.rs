@@ -1,7 +1,8 @@
 //! The original beside the rules on one case: they agree, or they differ in a class that
 //! docs/DIFFERENCES.md names, or they differ in none of those, which must never be seen. A case that
-//! the original no longer decides is not put to it.
+//! the original no longer decides is not compared with it.
 
+use crate::left::is_as_told;
 use crate::reasons;
 use model::answer as document;
 use record::{Answer, Case};
@@ -15,7 +16,7 @@ pub enum Side {
     DocumentAlone,
     /// Document 02 leaves the case to the model.
     Left,
-    /// A difference that no class explains, or one from the number that document 02 gives.
+    /// A difference that no class explains, or one from what document 02 says of a case that it leaves.
     Unlisted,
 }
 
@@ -32,7 +33,7 @@ pub fn verdict(case: &Case) -> Verdict {
     let document = document(case);
     if let Some(left) = case.left_to_model() {
         let class = format!("{} {}: {left}", case.form().name, document.number);
-        let as_told = left.number().is_none_or(|number| number == document.number);
+        let as_told = is_as_told(left, case, document.number);
         let side = if as_told { Side::Left } else { Side::Unlisted };
         return Verdict { side, class, document, original: None };
     }

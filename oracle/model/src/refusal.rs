@@ -1,5 +1,5 @@
 //! The numbers of document 01's table, by the names that it gives them, and those that join it by
-//! document 02, by the original's.
+//! document 02, by the original's or, where it has none, in its manner.
 
 pub const NOT_APPROVED: u64 = 1;
 pub const EXCEEDED_SLIPPAGE: u64 = 2;
@@ -14,6 +14,7 @@ pub const UNNAMED_REQUIRE: u64 = 10;
 pub const PANIC: u64 = 11;
 pub const INIT_LP_AMOUNT_TOO_LESS: u64 = 13;
 pub const TRANSFER_FEE_CALCULATE_NOT_MATCH: u64 = 14;
+pub const LEFT_LP_AMOUNT_TOO_LESS: u64 = 15;
 
 /// The next step of a call: refused with this number, or on to the one after.
 pub fn refuse_if(fails: bool, number: u64) -> Result<(), u64> {

@@ -16,7 +16,13 @@ pub enum Left {
     /// 02 (c): a call on a pool with points above 0 of either token, whatever the maximums, or a
     /// function of the charge alone at such points.
     Charge,
+    /// 02 (e): a withdrawal that leaves fewer than 100 LP and that the original accepts, or would, had it such
+    /// a status, fee model or index.
+    LockedLp,
 }
+
+/// The least that a withdrawal leaves, by 02 (e).
+pub const LOCKED_LP: u64 = 100;
 
 impl fmt::Display for Left {
     fn fmt(&self, out: &mut fmt::Formatter) -> fmt::Result {
@@ -24,6 +30,7 @@ impl fmt::Display for Left {
             Left::RateSumOfZero => "rate sum 0, 02 (a)",
             Left::AmountOnClosedPool => "refused amount on a closed pool, 02 (b)",
             Left::Charge => "points above 0, 02 (c)",
+            Left::LockedLp => "fewer than 100 LP left, 02 (e)",
         })
     }
 }
@@ -34,6 +41,7 @@ impl Left {
         match self {
             Left::RateSumOfZero | Left::Charge => None,
             Left::AmountOnClosedPool => Some(1),
+            Left::LockedLp => Some(15),
         }
     }
 }
@@ -50,6 +58,7 @@ impl Case {
             (Left::AmountOnClosedPool, self.is_refused_amount_on_closed_pool()),
             // An opening has no original beside it, whatever it charges.
             (Left::Charge, self.kind != 1 && self.bears_charges()),
+            (Left::LockedLp, self.leaves_less_than_locked()),
         ];
         reasons.into_iter().find(|(_, holds)| *holds).map(|(left, _)| left)
     }
@@ -79,5 +88,25 @@ impl Case {
             Some(Call::Withdrawal { lp, owned, .. }) => pool.status_bit(1) && (lp == 0 || lp > owned),
             _ => false,
         }
+    }
+
+    /// Besides what is left, each test of the original passes: it is open, the owner has the LP, the
+    /// vaults hold their counters, and of both tokens something is due that is not below the minimum. For
+    /// LP within the supply no amount is above its net, so none is capped or past u64.
+    fn leaves_less_than_locked(&self) -> bool {
+        let Some(Call::Withdrawal { lp, owned, minimums }) = self.call() else {
+            return false;
+        };
+        let pool = self.pool();
+        let is_paid = |t: usize| {
+            let amount = |net| u128::from(lp) * u128::from(net) / u128::from(pool.supply);
+            pool.net(t).map(amount).is_some_and(|amount| amount > 0 && amount >= minimums[t].into())
+        };
+        let left = pool.supply.checked_sub(lp);
+        left.is_some_and(|left| left < LOCKED_LP)
+            && !pool.status_bit(1)
+            && (1..=owned).contains(&lp)
+            && is_paid(0)
+            && is_paid(1)
     }
 }

@@ -11,7 +11,7 @@ mod ring;
 pub use call::{Call, Opening, Receipt, Swap, RECEIPT_COLUMNS, RECEIPT_LENGTH};
 pub use case::{call_answer, Answer, Case};
 pub use form::{form, Form, On, FORMS};
-pub use left::Left;
+pub use left::{Left, LOCKED_LP};
 pub use pool::{Charge, Pool, Rates, RingHead, State, POOL_COLUMNS, POOL_LENGTH};
 pub use ring::{
     entry_at, filled_ring, only_newest_written, Entry, Ring, ENTRY_COLUMNS, ENTRY_LENGTH, RING_ENTRIES,

@@ -135,6 +135,12 @@ impl Pool {
         self.charges.iter().any(|charge| charge.points != 0)
     }
 
+    /// The vault less its counters; none where they are above it.
+    pub fn net(&self, token: usize) -> Option<u64> {
+        let counters = [self.protocol[token], self.fund[token], self.creator[token]];
+        counters.into_iter().try_fold(self.vaults[token], u64::checked_sub)
+    }
+
     /// Whether the pool is closed to what this bit stands for: 0 deposits, 1 withdrawals, 2 swaps.
     pub fn status_bit(&self, bit: u64) -> bool {
         self.status >> bit & 1 == 1

@@ -5,15 +5,15 @@ use super::*;
 use record::Charge;
 
 /// Points and maximum.
-type Terms = [u64; 2];
+pub type Terms = [u64; 2];
 
 const NONE: Terms = [0, 0];
 /// Those of the worked opening with charges.
-const WORKED: [Terms; 2] = [[100, 50], [25, MOST]];
+pub const WORKED: [Terms; 2] = [[100, 50], [25, MOST]];
 /// A maximum of 1 is charged on every amount above 0.
 const ONE: Terms = [1, 1];
 /// By hand: an amount above 0 never arrives, and none above 0 can be sent for.
-const ALL: Terms = [10_000, MOST];
+pub const ALL: Terms = [10_000, MOST];
 /// Half of it, rounded up.
 const HALVED: Terms = [5000, MOST];
 
@@ -47,7 +47,7 @@ impl Bound {
     }
 }
 
-fn with(pool: Pool, [token_0, token_1]: [Terms; 2]) -> Pool {
+pub fn with(pool: Pool, [token_0, token_1]: [Terms; 2]) -> Pool {
     let charge = |[points, maximum]: Terms| Charge { points, maximum };
     Pool { charges: [charge(token_0), charge(token_1)], ..pool }
 }
@@ -344,8 +344,8 @@ fn withdrawals() -> Vec<Bound> {
     let worked =
         |minimums: [u64; 2]| on(with(day(), WORKED), 5, &[&[10_000, 10_000][..], &minimums].concat());
     let of_day = |charges, minimum| on(with(day(), charges), 5, &[3, 3, minimum, 0]);
-    let hundred = with(Pool { vaults: [1000, 1000], supply: 100, ..day() }, [[100, MOST], NONE]);
-    let capped = |minimum| on(hundred, 5, &[200, 200, minimum, 0]);
+    let even = |supply| with(Pool { vaults: [1000, 1000], supply, ..day() }, [[100, MOST], NONE]);
+    let capped = |minimum| on(even(100), 5, &[200, 200, minimum, 0]);
     vec![
         bound("received at the minimums", 0, worked([4950, 19_950])).paying(50, 50),
         bound("received one below a minimum", 2, worked([4951, 19_950])),
@@ -355,7 +355,8 @@ fn withdrawals() -> Vec<Bound> {
         bound("nothing is received of either", 0, of_day([ALL, ALL], 0)).paying(1, 6),
         bound("200 of 100 LP, capped, 990 received", 11, capped(990)),
         bound("200 of 100 LP, capped, below the minimum", 2, capped(991)),
-        bound("the whole supply", 0, on(hundred, 5, &[100, 100, 990, 1000])).paying(10, 0),
+        bound("the whole supply", 15, on(even(100), 5, &[100, 100, 990, 1000])),
+        bound("half of the supply of 200", 0, on(even(200), 5, &[100, 100, 495, 500])).paying(5, 0),
     ]
 }
 

@@ -3,7 +3,8 @@
 
 use super::charges::most_arriving;
 use crate::random::Random;
-use record::{Call, Case, State};
+use model::calls::{charged, nets};
+use record::{Call, Case, State, LOCKED_LP};
 
 pub fn call(random: &mut Random, state: &State, kind: u64) -> Case {
     let arguments = match kind {
@@ -114,16 +115,31 @@ fn liquidity(random: &mut Random, state: &State, kind: u64) -> Vec<u64> {
     if !random.chance(3) {
         return with_limits(loose, loose);
     }
-    let call = Call::from_words(kind, &with_limits(loose, loose)).expect("a change of LP takes such words");
-    let receipt = model::run(state, &call).receipt;
-    let [a0, a1] = [0, 1].map(|t| if kind == 4 { receipt.sent(t) } else { receipt.received(t) });
+    let [a0, a1] = if kind == 4 { sent(state, lp) } else { received(state, lp) };
     let (first, second) = (random.near(a0), random.near(a1));
     with_limits(if random.chance(2) { first } else { loose }, if random.chance(2) { second } else { loose })
 }
 
+/// What a deposit sends where it is accepted.
+fn sent(state: &State, lp: u64) -> [u64; 2] {
+    let receipt = model::run(state, &Call::Deposit { lp, maximums: [u64::MAX; 2] }).receipt;
+    [receipt.sent(0), receipt.sent(1)]
+}
+
+/// What a withdrawal's owner receives, or would where too little LP is left.
+fn received(state: &State, lp: u64) -> [u64; 2] {
+    let pool = &state.pool;
+    let nets = nets(pool).unwrap_or_default();
+    let worth = model::answer(&Case { kind: 22, columns: vec![lp, pool.supply, nets[0], nets[1], 0] });
+    [0, 1].map(|t| {
+        let leaving = worth.values[t].min(nets[t]);
+        leaving - charged(leaving, pool.charges[t])
+    })
+}
+
 /// LP, and the owner's, who mostly has enough. On a closed pool the LP is often refused as well.
 fn lp_and_owned(random: &mut Random, state: &State, kind: u64) -> (u64, u64) {
-    let lp = lp_amount(random, state.pool.supply);
+    let lp = lp_amount(random, state.pool.supply, kind);
     let closed = state.pool.status_bit(kind - 4);
     match random.below(3) {
         0 if closed => (0, random.any()),
@@ -132,12 +148,14 @@ fn lp_and_owned(random: &mut Random, state: &State, kind: u64) -> (u64, u64) {
     }
 }
 
-fn lp_amount(random: &mut Random, supply: u64) -> u64 {
-    match random.below(6) {
+fn lp_amount(random: &mut Random, supply: u64, kind: u64) -> u64 {
+    match random.below(7) {
         0 => random.below(20),
         1 => random.any(),
         2 => random.near(supply),
         3 => random.near(u64::MAX - supply),
+        // A withdrawal that leaves just the locked LP, or a few more or fewer.
+        4 if kind == 5 => random.near(supply.saturating_sub(LOCKED_LP)),
         _ => random.up_to(supply) >> random.below(20),
     }
 }

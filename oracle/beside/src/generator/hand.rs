@@ -98,7 +98,7 @@ fn full(random: &mut Random) -> Pool {
             pool.protocol[token] = pool.vaults[token].saturating_sub(random.sized() / 4);
         }
     }
-    pool.supply = random.pick(&[u64::MAX, u64::MAX / 2, 1 << 32, 1]);
+    pool.supply = random.pick(&[u64::MAX, u64::MAX / 2, 1 << 32, 101, 1]);
     pool
 }
 
@@ -110,8 +110,10 @@ fn steep(random: &mut Random) -> Pool {
     on_top(random, nets)
 }
 
+/// One supply in four is below the locked LP or about them.
 fn on_top(random: &mut Random, nets: [u64; 2]) -> Pool {
-    let mut pool = Pool { supply: random.sized().max(1), ..Pool::default() };
+    let supply = if random.chance(4) { 1 + random.below(300) } else { random.sized().max(1) };
+    let mut pool = Pool { supply, ..Pool::default() };
     for (token, net) in nets.into_iter().enumerate() {
         let longest = random.below(64);
         let mut counter = || if longest < 16 { 0 } else { random.word() >> longest.max(8) };

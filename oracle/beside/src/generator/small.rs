@@ -45,6 +45,7 @@ fn grids() -> Vec<Grid> {
     }
     grids.extend([charged_deposits(), charged_withdrawals(), charged_settlements(), charged_openings()]);
     grids.push(Grid { kind: 24, columns: vec![to(15), to(15), to(15)] });
+    grids.extend([locked_withdrawals(), charged_locked_withdrawals()]);
     grids
 }
 
@@ -142,6 +143,26 @@ fn charged_withdrawals() -> Grid {
     (columns[0], columns[1], columns[8]) = (vec![0, 2, 5], vec![3, 6], vec![1, 4]);
     charge(&mut columns);
     columns.extend([to(6), vec![0, 9], to(2), to(2)]);
+    Grid { kind: 5, columns }
+}
+
+/// Withdrawals about the locked 100 LP, some that a test before refuses.
+fn locked_withdrawals() -> Grid {
+    let mut columns = pool(WORKED);
+    (columns[0], columns[1]) = (vec![0, 1, 101, 150, 410], vec![100, 205, 333, 1000]);
+    columns[8] = vec![0, 1, 99, 100, 101, 102, 103, 107, 200, 201];
+    (columns[3], columns[9]) = (to(1), vec![0, 2]);
+    columns.extend([vec![0, 1, 2, 3, 5, 7, 99, 100, 101, 102, 103, 200, 202], vec![2, u64::MAX]]);
+    columns.extend([vec![0, 1, 2, 102], to(1)]);
+    Grid { kind: 5, columns }
+}
+
+fn charged_locked_withdrawals() -> Grid {
+    let mut columns = pool(WORKED);
+    (columns[0], columns[1]) = (vec![101, 410], vec![205]);
+    columns[8] = vec![100, 101, 102, 103, 200];
+    charge(&mut columns);
+    columns.extend([vec![1, 2, 3, 100, 101, 102], vec![u64::MAX], to(2), to(1)]);
     Grid { kind: 5, columns }
 }
 

@@ -1,11 +1,14 @@
-//! Deposit and withdrawal, with document 02 (b): closed comes before the amount; and (c): limits look
-//! at what is sent and received, all else at what reaches or leaves the vaults.
+//! Deposit and withdrawal, with document 02 (b): closed comes before the amount; (c): limits look at
+//! what is sent and received, all else at what reaches or leaves the vaults; and (e): 100 LP stay.
 
 use super::{charges_on, nets, sent, sum_or, Accepted};
 use crate::curve::tokens_for;
 use crate::refusal::*;
 use crate::whole::{whole, ZERO};
 use record::{Pool, Receipt, State};
+
+/// Locked at the start; the supply counts them too.
+const LOCK_LP_AMOUNT: u64 = 100;
 
 pub fn deposit(state: &State, lp: u64, maximums: [u64; 2]) -> Accepted {
     let pool = &state.pool;
@@ -33,11 +36,13 @@ pub fn withdraw(state: &State, lp: u64, owned: u64, minimums: [u64; 2]) -> Accep
     let charges = charges_on(pool, amounts);
     refuse_if((0..2).any(|t| amounts[t] - charges[t] < minimums[t]), EXCEEDED_SLIPPAGE)?;
     refuse_if(lp > pool.supply, PANIC)?;
+    let supply = pool.supply - lp;
+    refuse_if(supply < LOCK_LP_AMOUNT, LEFT_LP_AMOUNT_TOO_LESS)?;
     let mut after = state.clone();
     for t in 0..2 {
         after.pool.vaults[t] -= amounts[t];
     }
-    after.pool.supply -= lp;
+    after.pool.supply = supply;
     Ok((after, Receipt { kind: 5, paid_out: amounts, lp, charges, ..Receipt::default() }))
 }
 
