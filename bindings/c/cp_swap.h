@@ -21,7 +21,7 @@
 extern "C" {
 #endif
 
-/* ---- the pool: 25 numbers; zeros until it is opened */
+/* ---- the pool: 27 numbers; zeros until it is opened */
 enum {
     CP_SWAP_VAULT_0, /* the whole balance of token 0, counters included */
     CP_SWAP_VAULT_1,
@@ -42,16 +42,19 @@ enum {
     CP_SWAP_CREATOR_RATE,
     CP_SWAP_SHARE_RATE,
     CP_SWAP_RING_USED, /* 0 or 1 */
-    CP_SWAP_RING_INDEX, /* the newest entry, 0 to 99 */
+    CP_SWAP_RING_INDEX, /* the newest entry, below the grid's length */
     CP_SWAP_RING_MARK, /* the clock up to which the sums count */
     CP_SWAP_POINTS_0, /* the charge on a transfer: points per 10,000, rounded up, */
     CP_SWAP_MAXIMUM_0, /* at most this and at most the amount */
     CP_SWAP_POINTS_1,
     CP_SWAP_MAXIMUM_1,
+    CP_SWAP_GRID_SPACING, /* the ring's newest entry is overwritten until it is so many seconds old */
+    CP_SWAP_GRID_LENGTH, /* the ring's entries that the pool uses; the first follows the last */
     CP_SWAP_POOL_LENGTH
 };
 
-/* ---- the ring: 100 entries of 5 numbers; sums modulo 2^128 of price times seconds */
+/* ---- the ring: 100 entries of 5 numbers; sums modulo 2^128 of price times seconds. Swaps read and
+ * write the first pool[CP_SWAP_GRID_LENGTH] entries, and no others; an accepted opening sets all 100 to 0. */
 enum {
     CP_SWAP_ENTRY_CLOCK,
     CP_SWAP_ENTRY_SUM_0_HIGH,
@@ -60,7 +63,10 @@ enum {
     CP_SWAP_ENTRY_SUM_1_LOW,
     CP_SWAP_ENTRY_LENGTH
 };
-enum { CP_SWAP_RING_ENTRIES = 100, CP_SWAP_RING_LENGTH = 500 };
+enum { CP_SWAP_RING_ENTRIES = 100, CP_SWAP_RING_LENGTH = 500 }; /* the array's, whatever a pool uses */
+
+/* ---- the usual grid, which is the original's: seconds, and entries that the pool uses */
+enum { CP_SWAP_DEFAULT_SPACING = 15, CP_SWAP_DEFAULT_LENGTH = 100 };
 
 /* ---- a receipt: 18 numbers, 0 where one has no meaning */
 enum {
@@ -109,7 +115,8 @@ enum {
     CP_SWAP_ACCEPTED = 0,
     CP_SWAP_NOT_APPROVED = 1, /* closed, or a swap before the open time, whatever the amount */
     CP_SWAP_EXCEEDED_SLIPPAGE = 2,
-    CP_SWAP_INVALID_INPUT = 3, /* also: a record whose enabled or ring-used is neither 0 nor 1 */
+    CP_SWAP_INVALID_INPUT = 3, /* a rate, flag, bit, share, points, spacing or length out of range;
+                                * also: a record whose enabled or ring-used is neither 0 nor 1 */
     CP_SWAP_ZERO_TRADING_TOKENS = 4, /* deposits and withdrawals; no swap answers it */
     CP_SWAP_INVALID_VAULT = 5,
     CP_SWAP_EMPTY_SUPPLY = 6,
@@ -118,7 +125,8 @@ enum {
     CP_SWAP_INVALID_FEE_MODEL = 9,
     CP_SWAP_REQUIRE_VIOLATED = 10, /* an amount is 0, of a swap what arrives or is received, or LP
                                     * above the owner's */
-    CP_SWAP_PANIC = 11, /* the original program would have panicked */
+    CP_SWAP_PANIC = 11, /* the original program would have panicked; also, at a swap: a record whose
+                         * length is above 100, or whose ring index is at or past the length */
     CP_SWAP_UNREADABLE_ROW = 12,
     CP_SWAP_INIT_LP_AMOUNT_TOO_LESS = 13,
     CP_SWAP_TRANSFER_FEE_CALCULATE_NOT_MATCH = 14, /* no u64 can be sent that leaves the wanted amount */
@@ -144,6 +152,8 @@ struct cp_swap_opening {
     uint64_t maximum_0;
     uint64_t points_1;
     uint64_t maximum_1;
+    uint64_t spacing; /* seconds from one entry of the ring to the next: 1 to 3,600, not 0 */
+    uint64_t length;  /* entries of the ring that the pool uses: 2 to 100, not 0 */
 };
 
 /* ---- directions and status */
@@ -154,45 +164,46 @@ enum { CP_SWAP_OPEN = 0, CP_SWAP_CLOSED = 1 };
 /* ---- the calls */
 
 /* A new pool in place of what the memory holds. */
-uint64_t cp_swap_open(uint64_t pool[25], uint64_t ring[500], uint64_t receipt[18],
+uint64_t cp_swap_open(uint64_t pool[27], uint64_t ring[500], uint64_t receipt[18],
                       const struct cp_swap_opening *opening);
 
 /* Sends `amount` in, and out what the curve gives for what arrives; at least `minimum` is received. */
-uint64_t cp_swap_base_input(uint64_t pool[25], uint64_t ring[500], uint64_t receipt[18],
+uint64_t cp_swap_base_input(uint64_t pool[27], uint64_t ring[500], uint64_t receipt[18],
                             uint64_t direction, uint64_t amount, uint64_t minimum, uint64_t clock);
 
 /* Pays out so much that `amount` is received, and takes in what that costs; at most `maximum` is
  * sent. */
-uint64_t cp_swap_base_output(uint64_t pool[25], uint64_t ring[500], uint64_t receipt[18],
+uint64_t cp_swap_base_output(uint64_t pool[27], uint64_t ring[500], uint64_t receipt[18],
                              uint64_t direction, uint64_t amount, uint64_t maximum, uint64_t clock);
 
 /* Issues `lp` LP tokens for both trading tokens, of which at most the maximums are sent. */
-uint64_t cp_swap_deposit(uint64_t pool[25], uint64_t ring[500], uint64_t receipt[18],
+uint64_t cp_swap_deposit(uint64_t pool[27], uint64_t ring[500], uint64_t receipt[18],
                          uint64_t lp, uint64_t maximum_0, uint64_t maximum_1);
 
 /* Takes `lp` LP tokens back from an owner who holds `owned` and receives at least the minimums;
  * CP_SWAP_LOCK_LP_AMOUNT have to stay. */
-uint64_t cp_swap_withdraw(uint64_t pool[25], uint64_t ring[500], uint64_t receipt[18],
+uint64_t cp_swap_withdraw(uint64_t pool[27], uint64_t ring[500], uint64_t receipt[18],
                           uint64_t lp, uint64_t owned, uint64_t minimum_0, uint64_t minimum_1);
 
 /* Pays the creators out; `share` millionths of their fees go to the protocol's counters. */
-uint64_t cp_swap_settle_creator_fee(uint64_t pool[25], uint64_t ring[500], uint64_t receipt[18],
+uint64_t cp_swap_settle_creator_fee(uint64_t pool[27], uint64_t ring[500], uint64_t receipt[18],
                                     uint64_t share);
 
 /* Opens (flag 0) or closes (flag 1) what the bit stands for. */
-uint64_t cp_swap_set_status(uint64_t pool[25], uint64_t ring[500], uint64_t receipt[18],
+uint64_t cp_swap_set_status(uint64_t pool[27], uint64_t ring[500], uint64_t receipt[18],
                             uint64_t bit, uint64_t flag);
 
 /* The vaults less their counters: what the LP tokens are worth together. Where it is refused the
  * nets are left as they were. */
-uint64_t cp_swap_nets(const uint64_t pool[25], uint64_t nets[2]);
+uint64_t cp_swap_nets(const uint64_t pool[27], uint64_t nets[2]);
 
 /* ---- the day sheet
  *
  * Rows in, a row out for each. A row is a number in 2 columns and five in 20 each, decimal and
  * right-justified, and a newline; numbers that a kind does not use are 0. The kinds:
  *   0 rates for the next openings: trade, protocol, fund, creator, share
- *   1 opening: amount 0, amount 1, fee model, enabled, open time; transfers are not charged
+ *   1 opening: amount 0, amount 1, fee model, enabled, open time; transfers are not charged, and the
+ *     grid is the usual one
  *   2 swap by input: direction, amount, minimum, clock
  *   3 swap by output: direction, amount, maximum, clock
  *   4 deposit: LP, maximum 0, maximum 1
@@ -209,13 +220,13 @@ uint64_t cp_swap_nets(const uint64_t pool[25], uint64_t nets[2]);
 /* A piece of the input: takes bytes as long as the output has room for another row of 103, and writes
  * the answer of each row that they end. What stands in the output after these rows is left as it is.
  * Answers 0, or 3 where the record is no pool; then nothing was written. */
-uint64_t cp_swap_day_sheet(uint64_t pool[25], uint64_t ring[500], uint64_t sheet[6],
+uint64_t cp_swap_day_sheet(uint64_t pool[27], uint64_t ring[500], uint64_t sheet[6],
                            uint8_t held[103], const uint8_t *input, size_t input_length,
                            uint8_t *output, size_t output_length, uint64_t progress[2]);
 
 /* The end of the input: answers its last row, where that has no newline. The progress is 0 and the
  * bytes written, 0 or 103. No row is begun after it. Answers as above. */
-uint64_t cp_swap_day_sheet_end(uint64_t pool[25], uint64_t ring[500], uint64_t sheet[6],
+uint64_t cp_swap_day_sheet_end(uint64_t pool[27], uint64_t ring[500], uint64_t sheet[6],
                                const uint8_t held[103], uint8_t output[103], uint64_t progress[2]);
 
 #ifdef __cplusplus

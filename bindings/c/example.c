@@ -1,5 +1,5 @@
 /* A pool's first day: opened, swapped both ways, a deposit, calls that are refused, and all withdrawn
- * but what is locked. Then a pool whose tokens are charged. */
+ * but what is locked. Then a pool whose tokens are charged, and whose ring has an entry each hour. */
 #include "cp_swap.h"
 
 #include <inttypes.h>
@@ -36,6 +36,8 @@ int main(void)
         .trade_rate = 2500,
         .protocol_rate = 120000,
         .fund_rate = 40000,
+        .spacing = CP_SWAP_DEFAULT_SPACING,
+        .length = CP_SWAP_DEFAULT_LENGTH,
     };
 
     show("opening", cp_swap_open(pool, ring, receipt, &opening));
@@ -53,6 +55,8 @@ int main(void)
     opening.maximum_0 = 50;
     opening.points_1 = 25;
     opening.maximum_1 = UINT64_MAX;
+    opening.spacing = 3600;
+    opening.length = 24;
     show("opening with charges", cp_swap_open(pool, ring, receipt, &opening));
     show("10000 sent for at least 39210",
          cp_swap_base_input(pool, ring, receipt, CP_SWAP_0_FOR_1, 10000, 39210, 100));

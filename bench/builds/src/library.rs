@@ -5,7 +5,7 @@
 #![allow(unsafe_code)]
 
 use port::Port;
-use record::{filled_ring, Call, Charge, Opening, Pool, Rates, State};
+use record::{filled_ring, Call, Charge, Grid, Opening, Pool, Rates, State};
 
 type Words = *mut u64;
 type Open = unsafe extern "C" fn(Words, Words, Words, *const u64) -> u64;
@@ -72,8 +72,8 @@ impl Library {
         let Port { pool, ring, receipt } = memory;
         let (pool, ring, receipt) = (pool.as_mut_ptr(), ring.as_mut_ptr(), receipt.as_mut_ptr());
         // SAFETY: both builds have these functions with these arguments, and neither is newer than this
-        // folder: the arrays are whole and of today's lengths, of which an older build uses the
-        // beginning. They do not overlap, and the library uses them during the call only.
+        // folder: the arrays and the opening's are whole and of today's lengths, of which an older build
+        // uses the beginning. They do not overlap, and the library uses them during the call only.
         unsafe {
             match *call {
                 Call::Opening(opening) => (self.open)(pool, ring, receipt, opening.words().as_ptr()),
@@ -108,6 +108,7 @@ impl Library {
             open_time: 0,
             rates: Rates::default(),
             charges: [Charge::default(); 2],
+            grid: Grid::DEFAULT,
         };
         let written = |words: &[u64]| words.iter().position(|word| *word == MARK).unwrap_or(words.len());
         (self.call(&mut memory, &Call::Opening(opening)) == 0)

@@ -2,7 +2,7 @@
 
 use beside::random::Random;
 use port::Port;
-use record::{filled_ring, Call, Charge, Opening, Pool, Rates, RingHead, State, Swap};
+use record::{filled_ring, Call, Charge, Grid, Opening, Pool, Rates, RingHead, State, Swap};
 use std::hint::black_box;
 use std::time::{SystemTime, UNIX_EPOCH};
 
@@ -105,6 +105,7 @@ impl Bench {
             enabled: random.chance(2),
             rates: rates(random),
             head: RingHead { used: true, index: random.below(100), mark },
+            grid: Grid::DEFAULT,
             ..Pool::default()
         };
         let entry = [mark - random.below(15), random.word(), random.word(), random.word(), random.word()];
@@ -134,8 +135,9 @@ impl Bench {
             enabled: random.below(2),
             open_time: 0,
             rates: rates(random),
-            // As in every pool of the benchmark: the original has no charges to be timed beside.
+            // As in every pool of the benchmark: the original has no charges and no other grid.
             charges: [Charge::default(); 2],
+            grid: Grid::DEFAULT,
         }
     }
 }

@@ -1,4 +1,4 @@
-//! The ring of prices.
+//! The ring of prices, with the one spacing and length that a day sheet's pools have.
 
 use crate::pool::{OVERFLOW, PANIC};
 

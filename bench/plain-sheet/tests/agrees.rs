@@ -1,6 +1,6 @@
 //! The plain program gives document 01's example, and the answers of the rules' model to any list.
 
-use beside::generator::{charges, list};
+use beside::generator::{list, Draws};
 use beside::random::Random;
 use record::{Call, Case, State};
 
@@ -61,7 +61,7 @@ fn rows_that_cannot_be_read() {
 }
 
 /// A list as a sheet: the arguments of an opening and a settlement are partly the sheet's rates, and the
-/// sheet's tokens are not charged.
+/// sheet's tokens are not charged, and its rings have spacing 15 and length 100.
 fn rows_of(call: &Call, case: &Case) -> String {
     match call {
         Call::Opening(_) => row(0, &case.columns[5..10]) + &row(1, &case.columns[..5]),
@@ -76,7 +76,7 @@ fn lists_of_calls() {
     let (mut sheet, mut expected) = (String::new(), String::new());
     let mut state = model::empty();
     for _ in 0..400 {
-        let opening = next(list::opening(&mut random, charges::none), &mut state, &mut sheet, &mut expected);
+        let opening = next(list::opening(&mut random, Draws::USUAL), &mut state, &mut sheet, &mut expected);
         for _ in 0..if opening == 0 { 40 } else { 0 } {
             let case = list::call(&mut random, &state);
             next(case, &mut state, &mut sheet, &mut expected);

@@ -1,7 +1,9 @@
 //! A pool's first day: opened, swapped both ways, a deposit, calls that are refused, and all withdrawn
-//! but what is locked. Then a pool whose tokens are charged.
+//! but what is locked. Then a pool whose tokens are charged, and whose ring has an entry each hour.
 
-use cp_swap::{Charge, Direction, Opening, Pool, Rates, Receipt, Refusal, Ring, StatusBit, LOCK_LP_AMOUNT};
+use cp_swap::{
+    Charge, Direction, Grid, Opening, Pool, Rates, Receipt, Refusal, Ring, StatusBit, LOCK_LP_AMOUNT,
+};
 
 fn main() -> Result<(), Refusal> {
     let (mut pool, mut ring) = (Pool::default(), Ring::default());
@@ -26,7 +28,8 @@ fn main() -> Result<(), Refusal> {
     show("withdrawal of all but the locked", &pool, answer)?;
 
     let charges = [Charge { points: 100, maximum: 50 }, Charge { points: 25, maximum: u64::MAX }];
-    let answer = pool.open(&mut ring, &Opening { charges, ..opening });
+    let grid = Grid { spacing: 3_600, length: 24 };
+    let answer = pool.open(&mut ring, &Opening { charges, grid, ..opening });
     show("opening with charges", &pool, answer)?;
     let answer = pool.swap_base_input(&mut ring, Direction::ZeroForOne, 10_000, 39_210, 100);
     show("10000 sent for at least 39210", &pool, answer)?;

@@ -1,7 +1,7 @@
 //! The calls on a pool.
 
 use crate::plain;
-use crate::{Charge, Pool, Rates, Receipt, Refusal, Ring};
+use crate::{Charge, Grid, Pool, Rates, Receipt, Refusal, Ring};
 
 /// Which token goes in.
 #[derive(Clone, Copy, Debug, PartialEq, Eq)]
@@ -43,7 +43,7 @@ pub const LOCK_LP_AMOUNT: u64 = 100;
 
 /// What a pool is opened with. Its LP supply is the whole root of the product of the amounts, of which the
 /// opener gets all but [`LOCK_LP_AMOUNT`].
-#[derive(Clone, Copy, Debug, Default, PartialEq, Eq)]
+#[derive(Clone, Copy, Debug, PartialEq, Eq)]
 pub struct Opening {
     /// Of either token, as they arrived: an opening bears no charge.
     pub amounts: [u64; 2],
@@ -57,12 +57,29 @@ pub struct Opening {
     pub rates: Rates,
     /// What transfers of either token are charged.
     pub charges: [Charge; 2],
+    /// How far apart its ring's entries are, and how many it uses.
+    pub grid: Grid,
+}
+
+impl Default for Opening {
+    /// Zeros, and [`Grid::DEFAULT`].
+    fn default() -> Opening {
+        Opening {
+            amounts: [0; 2],
+            fee_model: FeeModel::default(),
+            enabled: false,
+            open_time: 0,
+            rates: Rates::default(),
+            charges: [Charge::default(); 2],
+            grid: Grid::DEFAULT,
+        }
+    }
 }
 
 impl Opening {
-    /// The library's fourteen numbers.
+    /// The library's sixteen numbers.
     fn words(&self) -> plain::OpeningWords {
-        let Opening { amounts, fee_model, enabled, open_time, rates, charges } = *self;
+        let Opening { amounts, fee_model, enabled, open_time, rates, charges, grid } = *self;
         let Rates { trade, protocol, fund, creator, share } = rates;
         let [charge_0, charge_1] = charges;
         [
@@ -80,6 +97,8 @@ impl Opening {
             charge_0.maximum,
             charge_1.points,
             charge_1.maximum,
+            grid.spacing,
+            grid.length,
         ]
     }
 }

@@ -23,7 +23,8 @@ pub struct Progress {
 /// share), 1 an opening (two amounts, fee model, enabled, open time), 2 a swap by input (direction,
 /// amount, minimum, clock), 3 a swap by output (direction, amount, maximum, clock), 4 a deposit (LP,
 /// two maximums), 5 a withdrawal (LP, the owner's LP, two minimums), 6 a settlement, 7 a status (bit,
-/// flag). Numbers that are not used are 0.
+/// flag). Numbers that are not used are 0. The pools that rows open carry no charges, and have
+/// [`Grid::DEFAULT`](crate::Grid::DEFAULT).
 ///
 /// The answer has the same widths: the number of a [`Refusal`](crate::Refusal) or 0, two amounts, the
 /// two nets and the LP supply. A row that is refused changes nothing.

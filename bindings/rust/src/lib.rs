@@ -38,6 +38,6 @@ pub mod plain;
 pub use calls::{Answer, Direction, FeeModel, Opening, StatusBit, LOCK_LP_AMOUNT};
 pub use day_sheet::{DaySheet, Progress, ROW_LENGTH};
 pub use receipt::Receipt;
-pub use record::{Charge, Pool, Rates, RingHead};
+pub use record::{Charge, Grid, Pool, Rates, RingHead};
 pub use refusal::Refusal;
 pub use ring::{Entry, Ring, Sum, RING_ENTRIES};

@@ -10,14 +10,15 @@ use crate::{Pool, Receipt, Ring};
 use std::mem::{align_of, size_of};
 
 /// A pool's record: the fields of [`Pool`] in their order.
-pub type PoolWords = [u64; 25];
+pub type PoolWords = [u64; 27];
 /// A ring's entries: the fields of [`Ring`] in their order.
 pub type RingWords = [u64; 500];
 /// A receipt: the fields of [`Receipt`] in their order.
 pub type ReceiptWords = [u64; 18];
 /// The arguments of an opening: amount 0, amount 1, fee model, enabled, open time, the rates trade,
-/// protocol, fund, creator and share, then points 0, maximum 0, points 1 and maximum 1.
-pub type OpeningWords = [u64; 14];
+/// protocol, fund, creator and share, then points 0, maximum 0, points 1 and maximum 1, then spacing and
+/// length.
+pub type OpeningWords = [u64; 16];
 /// A day sheet's numbers: trade, protocol, fund, creator and share rate for the next opening, and how
 /// many bytes are held of a row that is begun.
 pub type SheetWords = [u64; 6];

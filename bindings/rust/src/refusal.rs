@@ -11,7 +11,7 @@ pub enum Refusal {
     NotApproved = 1,
     /// An amount is beyond the caller's limit.
     ExceededSlippage = 2,
-    /// A rate, flag, bit, share or a charge's points are out of range.
+    /// A rate, flag, bit, share, a charge's points, a spacing or a length is out of range.
     InvalidInput = 3,
     /// An amount of a deposit or withdrawal would be 0, or the supply is. No swap answers it.
     ZeroTradingTokens = 4,
@@ -28,7 +28,7 @@ pub enum Refusal {
     /// A check that the original has no name for: an amount is 0, of a swap what arrives or is received, or
     /// LP tokens are not the owner's.
     RequireViolated = 10,
-    /// The original would panic.
+    /// The original would panic; also, at a swap, a ring's length above 100, or an index at or past it.
     Panic = 11,
     /// A row of a day sheet can't be read.
     UnreadableRow = 12,
@@ -75,7 +75,9 @@ impl Refusal {
         match self {
             Refusal::NotApproved => "the pool is closed for such calls, or not yet open",
             Refusal::ExceededSlippage => "the price is beyond the caller's limit",
-            Refusal::InvalidInput => "a rate, flag, status bit, share or points are out of range",
+            Refusal::InvalidInput => {
+                "a rate, flag, status bit, share, points, spacing or length is out of range"
+            }
             Refusal::ZeroTradingTokens => "an amount of tokens would be none",
             Refusal::InvalidVault => "the direction is neither 0 nor 1",
             Refusal::EmptySupply => "an opening without tokens",
@@ -83,7 +85,9 @@ impl Refusal {
             Refusal::MathOverflow => "a sum or a vault would pass its width",
             Refusal::InvalidFeeModel => "there is no such fee model",
             Refusal::RequireViolated => "an amount is 0, or LP tokens are not the owner's",
-            Refusal::Panic => "the original would panic: a net of 0, or a result past its width",
+            Refusal::Panic => {
+                "the original would panic (a net of 0, a width passed), or the ring has no entry at its index"
+            }
             Refusal::UnreadableRow => "the row cannot be read",
             Refusal::InitLpAmountTooLess => "the opening's supply is below 101",
             Refusal::TransferFeeCalculateNotMatch => "no u64 can be sent that leaves the wanted amount",

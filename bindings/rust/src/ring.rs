@@ -1,6 +1,6 @@
 //! The ring of prices.
 
-/// How many entries a ring has.
+/// How many entries are lent to a call, whatever number of them the pool uses.
 pub const RING_ENTRIES: usize = 100;
 
 /// A sum modulo 2^128, in two halves.
@@ -30,7 +30,8 @@ pub struct Entry {
     pub sums: [Sum; 2],
 }
 
-/// The hundred entries, lent to each call beside the pool.
+/// A hundred entries, lent to each call beside the pool. Swaps read and write the first
+/// [`Grid::length`](crate::Grid::length) of them; an accepted opening sets all to 0.
 #[repr(C)]
 #[derive(Clone, Debug, PartialEq, Eq)]
 pub struct Ring {

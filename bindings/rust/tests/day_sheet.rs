@@ -1,6 +1,6 @@
 //! The day sheet: however the input is cut, and rows that can't be read.
 
-use cp_swap::{plain, DaySheet, Progress, Rates, ROW_LENGTH};
+use cp_swap::{plain, DaySheet, Grid, Progress, Rates, ROW_LENGTH};
 
 /// The rules' worked example.
 const ROWS: &[u8] =
@@ -58,7 +58,7 @@ fn the_example_whole() {
     assert_eq!(output, ANSWERS);
     assert_eq!(sheet.finish(), None);
     let rates = Rates { trade: 2_500, protocol: 120_000, fund: 40_000, creator: 0, share: 0 };
-    assert_eq!((sheet.rates(), sheet.pool().rates), (rates, rates));
+    assert_eq!((sheet.rates(), sheet.pool().rates, sheet.pool().grid), (rates, rates, Grid::DEFAULT));
     assert_eq!(sheet.pool().nets(), Ok([1_009_996, 3_960_495]));
     assert_eq!(sheet.ring().entries[0].clock, 100);
 }
@@ -163,7 +163,7 @@ fn a_refused_opening_keeps_the_pool() {
 #[test]
 fn a_record_that_is_no_pool_is_refused() {
     for flag in [12, 18] {
-        let (mut pool, mut ring) = ([0; 25], [0; 500]);
+        let (mut pool, mut ring) = ([0; 27], [0; 500]);
         pool[flag] = 2;
         let (mut sheet, mut held) = ([5; 6], [b'h'; ROW_LENGTH]);
         let (mut output, mut progress) = ([b'#'; ROW_LENGTH], [7; 2]);
@@ -179,7 +179,7 @@ fn a_record_that_is_no_pool_is_refused() {
 
 #[test]
 fn no_more_than_a_row_is_held() {
-    let (mut pool, mut ring) = ([0; 25], [0; 500]);
+    let (mut pool, mut ring) = ([0; 27], [0; 500]);
     let (mut sheet, mut held) = ([0, 0, 0, 0, 0, u64::MAX], [b'h'; ROW_LENGTH]);
     let (mut output, mut progress) = ([0; ROW_LENGTH], [7; 2]);
     let fed = plain::day_sheet(&mut pool, &mut ring, &mut sheet, &mut held, b"h", &mut output, &mut progress);

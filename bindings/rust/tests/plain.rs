@@ -1,10 +1,10 @@
 //! The calls over plain numbers: what a refusal leaves, and the order of the numbers.
 
-use cp_swap::{plain, Charge, Entry, Pool, Rates, Receipt, Refusal, Ring, RingHead, Sum};
+use cp_swap::{plain, Charge, Entry, Grid, Pool, Rates, Receipt, Refusal, Ring, RingHead, Sum};
 
-fn opened() -> ([u64; 25], [u64; 500]) {
-    let (mut pool, mut ring, mut receipt) = ([0; 25], [0; 500], [0; 18]);
-    let opening = [1_000_000, 4_000_000, 0, 0, 0, 2_500, 120_000, 40_000, 0, 0, 0, 0, 0, 0];
+fn opened() -> ([u64; 27], [u64; 500]) {
+    let (mut pool, mut ring, mut receipt) = ([0; 27], [0; 500], [0; 18]);
+    let opening = [1_000_000, 4_000_000, 0, 0, 0, 2_500, 120_000, 40_000, 0, 0, 0, 0, 0, 0, 15, 100];
     let number = plain::open(&mut pool, &mut ring, &mut receipt, &opening);
     assert_eq!(number, 0);
     (pool, ring)
@@ -18,7 +18,7 @@ fn refusal(number: u64) -> [u64; 18] {
 }
 
 /// Refused with this number: pool and ring stay, and the receipt holds the number and zeros.
-fn refuses(number: u64, call: impl FnOnce(&mut [u64; 25], &mut [u64; 500], &mut [u64; 18]) -> u64) {
+fn refuses(number: u64, call: impl FnOnce(&mut [u64; 27], &mut [u64; 500], &mut [u64; 18]) -> u64) {
     let (mut pool, mut ring) = opened();
     let mut receipt = [7; 18];
     let before = (pool, ring);
@@ -34,9 +34,10 @@ fn a_refused_call_writes_only_its_receipt() {
     refuses(10, |pool, ring, receipt| plain::withdraw(pool, ring, receipt, 3, 2, [0, 0]));
     refuses(3, |pool, ring, receipt| plain::settle_creator_fee(pool, ring, receipt, 1_000_001));
     refuses(3, |pool, ring, receipt| plain::set_status(pool, ring, receipt, 3, 0));
-    let opening = |fee_model, points| [200, 200, fee_model, 0, 0, 0, 0, 0, 0, 0, points, 0, 0, 0];
-    refuses(9, |pool, ring, receipt| plain::open(pool, ring, receipt, &opening(3, 0)));
-    refuses(3, |pool, ring, receipt| plain::open(pool, ring, receipt, &opening(0, 10_000)));
+    let opening = |model, points, length| [200, 200, model, 0, 0, 0, 0, 0, 0, 0, points, 0, 0, 0, 15, length];
+    refuses(9, |pool, ring, receipt| plain::open(pool, ring, receipt, &opening(3, 0, 100)));
+    refuses(3, |pool, ring, receipt| plain::open(pool, ring, receipt, &opening(0, 10_000, 100)));
+    refuses(3, |pool, ring, receipt| plain::open(pool, ring, receipt, &opening(0, 0, 101)));
 }
 
 /// The points that a record built by hand has may be any: here the charge takes all.
@@ -80,6 +81,7 @@ fn the_ring_moves_on_after_15_seconds() {
     assert_eq!(&pool[18..21], [1, 1, 115]);
     assert_eq!((ring[0], ring[5]), (100, 115));
     assert!(ring[1] == 0 && ring[2] > 0 && ring[6] == 0 && ring[7] > ring[2]);
+    assert_eq!(&pool[25..], [15, 100]);
 }
 
 #[test]
@@ -97,10 +99,12 @@ fn records_are_their_numbers_in_order() {
         rates: Rates { trade: 14, protocol: 15, fund: 16, creator: 17, share: 18 },
         ring: RingHead { used: 19, index: 20, mark: 21 },
         charges: [Charge { points: 22, maximum: 23 }, Charge { points: 24, maximum: 25 }],
+        grid: Grid { spacing: 26, length: 27 },
     };
-    let numbers: [u64; 25] = std::array::from_fn(|at| 1 + at as u64);
+    let numbers: [u64; 27] = std::array::from_fn(|at| 1 + at as u64);
     assert_eq!(pool.words(), numbers);
     assert_eq!(Pool::from_words(numbers), pool);
+    assert_eq!(Pool::default().words(), [0; 27]);
 
     let mut ring = Ring::default();
     ring.entries[99] = Entry { clock: 1, sums: [Sum { high: 2, low: 3 }, Sum { high: 4, low: 5 }] };

@@ -14,7 +14,7 @@ use Rattle.accounting.specs.Counters.{counterTests}
 use Rattle.charge.specs.declared.Charged.{Charged}
 use Rattle.charge.specs.Charge.{restOf, leastSent, nothingCharged, chargedOn}
 use Rattle.accounting.specs.Booking.{creatorToken, booked}
-use Rattle.oracle.specs.Ring.{newest, price}
+use Rattle.oracle.specs.Ring.{seen, price}
 use Rattle.receipt.specs.Kind.{Opening as kind}
 use Rattle.receipt.specs.Receipt.{refusedBooks, amounts}
 use Rattle.status.specs.Status.{flagged, statusTests, statusAfter}
@@ -56,7 +56,7 @@ acceptedAt byInput s zeroIn zeroFee swap charged clock =
     doneOf (s .entries)
     (swappedIn p
     (acceptedSwap byInput zeroIn zeroFee swap charged (booked zeroIn zeroFee (swap .protocol) (swap .fund) (swap .creator) (p .books .fees)) (p .books) (p .ring)
-    (newest (p .ring) (s .entries)) (price (net0 p) (net1 p)) (price (net1 p) (net0 p)) clock))
+    (seen (p .ring) (s .entries)) (price (net0 p) (net1 p)) (price (net1 p) (net0 p)) clock))
 
 abbrev pub swapDecision : Bool → State → ℕ → ℕ → ℕ → ℕ → Decision
 swapDecision byInput s direction amount limit clock =
@@ -66,7 +66,7 @@ swapDecision byInput s direction amount limit clock =
     let swap = swapOf byInput s direction amount in
     record {
       tests =
-          swapTests byInput zeroIn (feeOnInput s direction) zeroFee swap (p .terms) (p .status) (p .books) (p .ring) (newest (p .ring) (s .entries))
+          swapTests byInput zeroIn (feeOnInput s direction) zeroFee swap (p .terms) (p .status) (p .books) (p .ring) (seen (p .ring) (s .entries))
           direction amount limit clock;
       accepted = acceptedAt byInput s zeroIn zeroFee swap (chargesOf byInput s direction amount) clock;
     }
@@ -127,7 +127,7 @@ openingDecision o = record {
   accepted =
       besides zeroEntries
       (record {
-        pool = startWith (booksWith (o .amount0) (o .amount1) (supplyOf o)) (openedTerms o);
+        pool = startWith (booksWith (o .amount0) (o .amount1) (supplyOf o)) (openedTerms o) (o .grid);
         receipt = amounts kind (o .amount0) (o .amount1) 0 0 (supplyOf o) nothingCharged;
       });
 }
@@ -182,6 +182,6 @@ call-decides s (Settle share) = decides s (λ a. besides (s .entries) (bookedIn 
 call-decides s (SetStatus bit flag) = decides s (λ a. besides (s .entries) (standingIn (s .pool) a)) _ _ _ refl refl refl refl refl
 
 pub opening-decides : (o : Opening) → Decides zeroState (openingDecision o) (opening o)
-unfolding opening openingDecision openingAfter openingTests refusedOpening zeroPool refused amounts
+unfolding opening openingDecision openingAfter openingTests _then_ refusedOpening zeroPool refused amounts
 opening-decides o =
-    decides zeroState (λ (a : OpeningAfter). besides zeroEntries (record { pool = startWith (a .books) (a .terms); receipt = a .receipt })) _ _ _ refl refl refl refl refl
+    decides zeroState (λ (a : OpeningAfter). besides zeroEntries (record { pool = startWith (a .books) (a .terms) (a .grid); receipt = a .receipt })) _ _ _ refl refl refl refl refl

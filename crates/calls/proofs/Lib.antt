@@ -1,4 +1,5 @@
 pub mod Decisions
+pub mod InRing
 pub mod Refusals
 pub mod FairCalls
 pub mod Within

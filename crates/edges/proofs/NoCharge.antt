@@ -32,7 +32,7 @@ use Rattle.worth.specs.Worth.{amountTests, part}
 use Rattle.liquidity.specs.Liquidity.{depositTests, deposited, depositAt, depositAfter, paid, withdrawTests, withdrawn, withdrawAt, withdrawAfter}
 use Rattle.opening.specs.declared.Opening.{Opening}
 use Rattle.opening.specs.declared.OpeningAfter.{OpeningAfter}
-use Rattle.opening.specs.Opening.{supplyOf, LeastSupply, HighestPoints, openingTests, booksWith, openedTerms, refusedOpening, openingAfter}
+use Rattle.opening.specs.Opening.{supplyOf, LeastSupply, HighestPoints, gridTests, openingTests, booksWith, openedTerms, refusedOpening, openingAfter}
 use Rattle.quotes.specs.Quotes.{netIn, netOut, chargeIn, chargeOut, chargedOf, resultOf, looked, frontTests, netTests}
 use Rattle.swap.specs.declared.SwapAfter.{SwapAfter}
 use Rattle.swap.specs.Swap.{lastTests, inputTests, outputTests, refusedSwap, acceptedSwap, swapAfter}
@@ -261,12 +261,14 @@ free-opening o free = λ i. openWith (free .0 i) (free .1 i)
         ∷ (rateTests (o .rates)
         then ((ltb HighestPoints points0, InvalidInput)
         ∷ (ltb HighestPoints points1, InvalidInput)
-        ∷ (ltb (supplyOf o) LeastSupply, InitLpAmountTooLess)
-        ∷ [])))
+        ∷ (gridTests (o .grid)
+        then ((ltb (supplyOf o) LeastSupply, InitLpAmountTooLess)
+        ∷ [])))))
         refusedOpening
         (record {
           books = booksWith (o .amount0) (o .amount1) (supplyOf o);
           terms = openedTerms o;
+          grid = o .grid;
           receipt = amounts kind (o .amount0) (o .amount1) 0 0 (supplyOf o) nothingCharged;
         })
 

@@ -1,12 +1,15 @@
 -- Document 01, 'Edges': the starred ones and the worked day, with what document 02 (a) makes of one, the answers that 02 (b) changes, pools whose
--- tokens carry charges (02 (c)), and withdrawals about the locked 100 (02 (e)), in one table. Each row is an opening, what is asked of its pool,
--- and what must come out.
+-- tokens carry charges (02 (c)), withdrawals about the locked 100 (02 (e)), and the ring's spacing and length (02 (f)), in one table. Each row is an
+-- opening, what is asked of its pool, and what must come out.
 use Prim.Native.Nat.{ℕ, _+_}
 use mathlib.Core.Path.{_≡_}
 use mathlib.Core.List.{List, [], _∷_}
 use Rattle.refusal.specs.Tests.{U64}
 use Rattle.rates.specs.declared.Rates.{Rates}
+use Rattle.charge.specs.declared.Charges.{Charges}
 use Rattle.charge.specs.Charge.{noCharges}
+use Rattle.oracle.specs.declared.Grid.{Grid}
+use Rattle.oracle.specs.Ring.{entryAt}
 use Rattle.curve.specs.declared.constant_product.LpTokens.{LpTokens}
 use Rattle.curve.specs.ConstantProduct.{tokens}
 use Rattle.pool.specs.State.{Done, net0, net1}
@@ -14,13 +17,20 @@ use Rattle.opening.specs.declared.Opening.{Opening}
 use Rattle.pool.specs.Calls.{opening}
 use Rattle.calls.specs.declared.Call.{Call}
 use Rattle.calls.specs.declared.Call.the-variants.{SwapBaseInput, SwapBaseOutput, Deposit, Withdraw, SetStatus}
-use Rattle.calls.specs.Next.{left, next}
+use Rattle.calls.specs.Next.{State, left, next}
+use Rattle.sheet.specs.Sheet.{dayGrid}
 
 pub data Asked : Type 0 where
   itself : Asked
-  call : Call → Asked
-  -- a call once this bit of the status is set
-  closed : ℕ → Call → Asked
+  -- a call after others
+  following : List Call → Call → Asked
+
+abbrev call : Call → Asked
+call c = following [] c
+
+-- a call once this bit of the status is set
+abbrev closed : ℕ → Call → Asked
+closed bit c = following (SetStatus bit 1 ∷ []) c
 
 -- what the documents speak of
 pub data Field : Type 0 where
@@ -39,6 +49,12 @@ pub data Field : Type 0 where
   netAfter0 : Field
   netAfter1 : Field
   supplyAfter : Field
+  -- of the ring: its index and mark, and an entry's clock and sums
+  ringIndex : Field
+  ringMark : Field
+  clockAt : ℕ → Field
+  sum0At : ℕ → Field
+  sum1At : ℕ → Field
 
 pub record Edge : Type 0 where
   pub opens : Opening
@@ -46,10 +62,14 @@ pub record Edge : Type 0 where
   pub out : List (Field × ℕ)
 
 -- ---- what comes out
+-- the point after some calls
+abbrev pub pointAfter : State → List Call → State
+pointAfter s [] = s
+pointAfter s (c ∷ cs) = pointAfter (left (next s c)) cs
+
 abbrev pub answer : Opening → Asked → Done
 answer o itself = opening o
-answer o (call c) = next (left (opening o)) c
-answer o (closed bit c) = next (left (next (left (opening o)) (SetStatus bit 1))) c
+answer o (following before c) = next (pointAfter (left (opening o)) before) c
 
 abbrev pub shown : Field → Done → ℕ
 shown number d = d .after .receipt .number
@@ -68,6 +88,11 @@ shown fromCurve1 d = d .after .receipt .paid .out1 + d .after .receipt .trade .�
 shown netAfter0 d = net0 (d .after .pool)
 shown netAfter1 d = net1 (d .after .pool)
 shown supplyAfter d = d .after .pool .books .supply
+shown ringIndex d = d .after .pool .ring .index
+shown ringMark d = d .after .pool .ring .mark
+shown (clockAt i) d = entryAt (d .entries) i .clock
+shown (sum0At i) d = entryAt (d .entries) i .sum0
+shown (sum1At i) d = entryAt (d .entries) i .sum1
 
 -- what a row's fields show, and what they must show
 abbrev pub found : Done → List (Field × ℕ) → List ℕ
@@ -93,17 +118,21 @@ tradeAndCreator trade creator = record { trade = trade; protocol = 120000; fund 
 abbrev dayRates : ℕ → Rates
 dayRates creator = tradeAndCreator 2500 creator
 
--- 1,000,000 by 4,000,000, open for swaps from this clock on
-abbrev openFrom : ℕ → ℕ → ℕ → Rates → Opening
-openFrom time model enabled rates = record {
-  amount0 = 1000000;
-  amount1 = 4000000;
+abbrev openWith : ℕ → ℕ → ℕ → ℕ → ℕ → Rates → Charges → Grid → Opening
+openWith amount0 amount1 model enabled time rates charges grid = record {
+  amount0 = amount0;
+  amount1 = amount1;
   model = model;
   enabled = enabled;
   «open_time» = time;
   rates = rates;
-  charges = noCharges;
+  charges = charges;
+  grid = grid;
 }
+
+-- 1,000,000 by 4,000,000, open for swaps from this clock on
+abbrev openFrom : ℕ → ℕ → ℕ → Rates → Opening
+openFrom time model enabled rates = openWith 1000000 4000000 model enabled time rates noCharges dayGrid
 
 abbrev day : ℕ → ℕ → Rates → Opening
 day = openFrom 0
@@ -112,23 +141,30 @@ abbrev worked : Opening
 worked = day 0 0 (dayRates 0)
 
 abbrev square : ℕ → Opening
-square amount = record { amount0 = amount; amount1 = amount; model = 0; enabled = 0; «open_time» = 0; rates = dayRates 0; charges = noCharges }
+square amount = openWith amount amount 0 0 0 (dayRates 0) noCharges dayGrid
 
 -- the worked opening, with charges: points and maximum of token 0, then of token 1
 abbrev charging : ℕ → ℕ → ℕ → ℕ → Opening
-charging points0 maximum0 points1 maximum1 = record {
-  amount0 = 1000000;
-  amount1 = 4000000;
-  model = 0;
-  enabled = 0;
-  «open_time» = 0;
-  rates = dayRates 0;
-  charges = record { token0 = record { points = points0; maximum = maximum0 }; token1 = record { points = points1; maximum = maximum1 } };
-}
+charging points0 maximum0 points1 maximum1 =
+    openWith 1000000 4000000 0 0 0 (dayRates 0)
+    (record { token0 = record { points = points0; maximum = maximum0 }; token1 = record { points = points1; maximum = maximum1 } })
+    dayGrid
 
 -- token 0 at 100 points with maximum 50, token 1 at 25 points with maximum 2^64 − 1, which caps nothing
 abbrev prize : Opening
 prize = charging 100 50 25 U64
+
+-- amounts, model, and the ring's spacing and length
+abbrev spacedOn : ℕ → ℕ → ℕ → ℕ → ℕ → Opening
+spacedOn amount0 amount1 model spacing length = openWith amount0 amount1 model 0 0 (dayRates 0) noCharges (record { spacing = spacing; length = length })
+
+-- the worked opening, with a spacing and a length
+abbrev spaced : ℕ → ℕ → Opening
+spaced = spacedOn 1000000 4000000 0
+
+-- the worked swap, at a clock
+abbrev workedSwap : ℕ → Call
+workedSwap clock = SwapBaseInput 0 10000 1 clock
 
 abbrev lp : ℕ → LpTokens
 lp n = record { 0 = n }
@@ -205,6 +241,30 @@ edges =
     -- of 101 by 101 the opener gets 1: a withdrawal of 1 leaves 100, of 2 is 15
     ∷ edge (square 101) (call (Withdraw (lp 1) (lp 1) (tokens 1) (tokens 1))) ((number, 0) ∷ (netAfter0, 100) ∷ (netAfter1, 100) ∷ (supplyAfter, 100) ∷ [])
     ∷ edge (square 101) (call (Withdraw (lp 2) (lp 2) (tokens 0) (tokens 0))) ((number, 15) ∷ [])
+    -- the ring's spacing and length (02 (f)): 1 to 3,600 seconds, 2 to 100 entries, else 3
+    ∷ edge (spaced 1 2) itself ((number, 0) ∷ [])
+    ∷ edge (spaced 3600 100) itself ((number, 0) ∷ [])
+    ∷ edge (spaced 0 2) itself ((number, 3) ∷ [])
+    ∷ edge (spaced 3601 100) itself ((number, 3) ∷ [])
+    ∷ edge (spaced 1 1) itself ((number, 3) ∷ [])
+    ∷ edge (spaced 3600 101) itself ((number, 3) ∷ [])
+    -- after 9, before 13
+    ∷ edge (spacedOn 1000000 4000000 3 0 101) itself ((number, 9) ∷ [])
+    ∷ edge (spacedOn 100 100 0 0 100) itself ((number, 3) ∷ [])
+    ∷ edge (spacedOn 100 100 0 15 101) itself ((number, 3) ∷ [])
+    -- after clock 100 at spacing 15, a swap at 114 overwrites and at 115 advances
+    ∷ edge worked (following (workedSwap 100 ∷ []) (workedSwap 114))
+    ((number, 0) ∷ (ringIndex, 0) ∷ (ringMark, 114) ∷ (clockAt 0, 100) ∷ (sum0At 0, 235785835796) ∷ (sum1At 0, 15334092592) ∷ (clockAt 1, 0) ∷ [])
+    ∷ edge worked (following (workedSwap 100 ∷ []) (workedSwap 115))
+    ((number, 0) ∷ (ringIndex, 1) ∷ (ringMark, 115) ∷ (clockAt 0, 100) ∷ (sum0At 0, 0) ∷ (clockAt 1, 115) ∷ (sum0At 1, 252627681210) ∷ (sum1At 1, 16429384920) ∷ [])
+    -- likewise at spacing 3,600: at 3,699 and at 3,700
+    ∷ edge (spaced 3600 2) (following (workedSwap 100 ∷ []) (workedSwap 3699)) ((number, 0) ∷ (ringIndex, 0) ∷ (clockAt 0, 100) ∷ (sum0At 0, 60613801644986) ∷ (clockAt 1, 0) ∷ [])
+    ∷ edge (spaced 3600 2) (following (workedSwap 100 ∷ []) (workedSwap 3700)) ((number, 0) ∷ (ringIndex, 1) ∷ (clockAt 0, 100) ∷ (clockAt 1, 3700) ∷ (sum0At 1, 60630643490400) ∷ [])
+    -- at length 2 the third entry is written at index 0; likewise at spacing 1, the swaps a second apart
+    ∷ edge (spaced 15 2) (following (workedSwap 100 ∷ workedSwap 115 ∷ []) (workedSwap 130))
+    ((number, 0) ∷ (ringIndex, 0) ∷ (clockAt 0, 130) ∷ (sum0At 0, 500333209695) ∷ (sum1At 0, 33185237895) ∷ (clockAt 1, 115) ∷ (clockAt 2, 0) ∷ [])
+    ∷ edge (spaced 1 2) (following (workedSwap 100 ∷ workedSwap 101 ∷ []) (workedSwap 102))
+    ((number, 0) ∷ (ringIndex, 0) ∷ (clockAt 0, 102) ∷ (sum0At 0, 33355547313) ∷ (sum1At 0, 2212349193) ∷ (clockAt 1, 101) ∷ (clockAt 2, 0) ∷ [])
     ∷ []
 
 -- what comes out is what must, in every row

@@ -1,4 +1,4 @@
--- Document 02 (c): 'At points 0 .. no answer changes'. Each call without a charge, as documents 01 and 02 (a), (b) and (e) have it, and that it is
+-- Document 02 (c): 'At points 0 .. no answer changes'. Each call without a charge, as documents 01 and 02 (a), (b), (e) and (f) have it, and that it is
 -- what the call gives where both points are 0, whatever the maximums; its receipt shows charges of 0, and an opening's terms carry the charges that
 -- it is given. A change of status takes none.
 use Prim.Native.Nat.{ℕ, _+_, _-_, _≤_}
@@ -30,7 +30,7 @@ use Rattle.worth.specs.Worth.{amountTests, part}
 use Rattle.liquidity.specs.Liquidity.{deposited, depositAfter, paid, withdrawn, withdrawAfter}
 use Rattle.opening.specs.declared.Opening.{Opening}
 use Rattle.opening.specs.declared.OpeningAfter.{OpeningAfter}
-use Rattle.opening.specs.Opening.{supplyOf, LeastSupply, booksWith, openedTerms, refusedOpening, openingAfter}
+use Rattle.opening.specs.Opening.{supplyOf, LeastSupply, gridTests, booksWith, openedTerms, refusedOpening, openingAfter}
 use Rattle.quotes.specs.Quotes.{netIn, netOut, resultOf, frontTests, netTests}
 use Rattle.swap.specs.declared.SwapAfter.{SwapAfter}
 use Rattle.swap.specs.Swap.{lastTests, refusedSwap, acceptedSwap, swapAfter}
@@ -128,12 +128,14 @@ plainOpening o =
     ∷ (ltb 2 (o .model), InvalidFeeModel)
     ∷ (ltb 1 (o .enabled), InvalidInput)
     ∷ (rateTests (o .rates)
+    then (gridTests (o .grid)
     then ((ltb (supplyOf o) LeastSupply, InitLpAmountTooLess)
-    ∷ [])))
+    ∷ []))))
     refusedOpening
     (record {
       books = booksWith (o .amount0) (o .amount1) (supplyOf o);
       terms = openedTerms o;
+      grid = o .grid;
       receipt = amounts kind (o .amount0) (o .amount1) 0 0 (supplyOf o) nothingCharged;
     })
 

@@ -1,18 +1,19 @@
-// Document 01's examples, each carried by a contract: its edges with the worked day, and its day sheet. Then what document 02 (a), (b), (c) and
-// (e) mean for every call.
+// Document 01's examples, each carried by a contract: its edges with the worked day, and its day sheet. Then what document 02 (a), (b), (c), (e)
+// and (f) mean for every call.
 ghost use Rattle.edges.specs.Closed.{ClosedBeforeNothing};
 ghost use Rattle.edges.specs.Edges.{edges, EdgesHold};
 ghost use Rattle.edges.specs.Example.{Example};
 ghost use Rattle.edges.specs.FreeDays.{FreeDays, NoSwapAnswers4};
 ghost use Rattle.edges.specs.Hundred.{HundredStays};
 ghost use Rattle.edges.specs.NoCharge.{NoChargeNoChange};
+ghost use Rattle.edges.specs.WithinLength.{WithinLength};
 ghost use mathlib.Core.Bool.{true};
 ghost use mathlib.Core.Path.{_≡_};
 ghost use lib.ListN.{length};
 
-// Every one of the table's 45 rows comes out as document 01 has it, with document 02 (a), (b), (c) and (e) (specs/Edges.antt).
+// Every one of the table's 60 rows comes out as document 01 has it, with document 02 (a), (b), (c), (e) and (f) (specs/Edges.antt).
 pub fn edges_hold() -> bool
-    ensures { λ r. ⌜ (r ≡ true) × (length edges ≡ 45) × EdgesHold ⌝ }
+    ensures { λ r. ⌜ (r ≡ true) × (length edges ≡ 60) × EdgesHold ⌝ }
 {
     true
 }
@@ -49,6 +50,14 @@ pub fn no_charge_no_change() -> bool
 // A withdrawal from any pool, opened or built by hand, leaves at least 100 LP tokens where it is accepted (specs/Hundred.antt).
 pub fn hundred_stays() -> bool
     ensures { λ r. ⌜ (r ≡ true) × HundredStays ⌝ }
+{
+    true
+}
+
+// Entries at or past the ring's length are neither read nor written, by any call on any pool; where the ring has no entry at its index no swap is
+// accepted (specs/WithinLength.antt).
+pub fn within_length() -> bool
+    ensures { λ r. ⌜ (r ≡ true) × WithinLength ⌝ }
 {
     true
 }

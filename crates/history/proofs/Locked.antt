@@ -54,7 +54,7 @@ run-locked {s} (step (call c) d e rest) h = run-locked rest (rw e (call-locked s
 
 -- ---- the start: the opener gets at least one LP besides
 pub opening-locked : (o : Opening) → opening o .after .receipt .number ≡ 0 → Locked (left (opening o))
-unfolding openingDecision openingTests
+unfolding openingDecision openingTests _then_
 opening-locked o z =
     let a = opening-number-tells o .where-accepted z in
     rw (a .result) (let t = a .passed in omega (arith, ltb-false))

@@ -1,11 +1,9 @@
--- The ring's update, step by step: an index past the last entry, the first use, no seconds, and the sums moved on.
+-- The ring's update, step by step: outside the ring, the first use, no seconds, and the sums moved on.
 use mathlib.Core.Path.{_≡_, refl, sym, ap, _∙_}
 use mathlib.Core.Bool.{Bool, true, false, cond, not, _||_}
-use Prim.Native.Nat.{ℕ, _+_, _-_, _*_, _≤_, _<_}
-use lib.Dec.{ltb, leb, eqb}
-use borrow.Author.Tests.{le-leb, lt-leb}
-use native.Mathlib.Omega.{arith}
-use lib.ListN.{length, List·getD-eq-default}
+use Prim.Native.Nat.{ℕ, _-_, _*_, _<_}
+use lib.Dec.{leb, eqb}
+use borrow.Author.Tests.{lt-leb}
 use Rattle.wide.specs.Value.{value}
 use Rattle.refusal.specs.Tests.{first, outcome}
 use Rattle.refusal.proofs.Stops.{outcome-map, outcome-first, outcome-go}
@@ -13,7 +11,7 @@ use Rattle.oracle.specs.declared.Ring.{Ring}
 use Rattle.oracle.specs.declared.Observation.{Observation}
 use Rattle.oracle.specs.declared.Update.{Update}
 use Rattle.oracle.specs.declared.Update.the-variants.{Refused, Kept, Stored}
-use Rattle.oracle.specs.Ring.{Entries, Entry, still, overwrites, entryAt, head, past128, ringTests, acceptedUpdate, observed}
+use Rattle.oracle.specs.Ring.{Entry, still, overwrites, outside, head, past128, ringTests, acceptedUpdate, observed}
 use Rattle.oracle.specs.Update.{entryOf, afterOf}
 use Rattle.oracle.specs.Stages.{firstUse, sumAfter, movedSums}
 
@@ -21,33 +19,30 @@ module _ (ring : Ring) (o : Observation) (clock price0 price1 : ℕ) where
   abbrev came : Update
   came = observed ring (entryOf o) clock price0 price1
 
-  pub no-entry : 100 ≤ ring .index → Refused 11 ≡ came
+  pub no-entry : outside ring ≡ true → Refused 11 ≡ came
   unfolding observed outcome
-  no-entry h = simp (le-leb 100 (ring .index) h)
+  no-entry h = simp h
 
-  pub first-used : ring .index < 100 → ring .used ≡ false → firstUse (ring .index) clock ≡ came
+  pub first-used : outside ring ≡ false → ring .used ≡ false → firstUse (ring .grid) (ring .index) clock ≡ came
   unfolding observed acceptedUpdate outcome
-  first-used h u = simp (lt-leb 100 (ring .index) h, u)
+  first-used h u = simp (h, u)
 
   -- with the mark found
-  module _ (h : ring .index < 100) (u : ring .used ≡ true) (mark : ℕ) (m : mark ≡ cond (eqb (ring .mark) 0) (o .clock) (ring .mark)) where
-    pub kept : (leb clock mark || leb clock (o .clock)) ≡ true → Kept (head (ring .index) mark) ≡ came
+  module _ (h : outside ring ≡ false) (u : ring .used ≡ true) (mark : ℕ) (m : mark ≡ cond (eqb (ring .mark) 0) (o .clock) (ring .mark)) where
+    pub kept : (leb clock mark || leb clock (o .clock)) ≡ true → Kept (head (ring .grid) (ring .index) mark) ≡ came
     unfolding observed acceptedUpdate outcome
-    kept s = simp (lt-leb 100 (ring .index) h, u, sym m, s)
+    kept s = simp (h, u, sym m, s)
 
     -- the sums moved on, in four ways: price 0 or price 1 × seconds past 2^128 − 1, the newest entry overwritten, or the next one written
     abbrev Moved : Type 0
     Moved =
-        movedSums (ring .index) (o .clock) clock (sumAfter (value (o .sum0)) price0 (clock - mark)) (sumAfter (value (o .sum1)) price1 (clock - mark))
+        movedSums (ring .grid) (ring .index) (o .clock) clock (sumAfter (value (o .sum0)) price0 (clock - mark)) (sumAfter (value (o .sum1)) price1 (clock - mark))
         ≡ came
 
     pub moved : mark < clock → o .clock < clock → Moved
     unfolding observed acceptedUpdate outcome sumAfter
-    moved a b = go (past128 (price0 * (clock - mark))) refl (past128 (price1 * (clock - mark))) refl (ltb (clock - o .clock) 15) refl
+    moved a b = go (past128 (price0 * (clock - mark))) refl (past128 (price1 * (clock - mark))) refl (overwrites (ring .grid) (entryOf o) clock) refl
       where
-        within : leb 100 (ring .index) ≡ false
-        within = lt-leb 100 (ring .index) h
-
         past-mark : leb clock mark ≡ false
         past-mark = lt-leb clock mark a
 
@@ -56,29 +51,17 @@ module _ (ring : Ring) (o : Observation) (clock price0 price1 : ℕ) where
 
         go :
             (x : Bool) → past128 (price0 * (clock - mark)) ≡ x → (y : Bool) → past128 (price1 * (clock - mark)) ≡ y
-            → (z : Bool) → ltb (clock - o .clock) 15 ≡ z → Moved
-        go true p y q z w = simp (within, u, sym m, past-mark, past-entry, p)
-        go false p true q z w = simp (within, u, sym m, past-mark, past-entry, p, q)
-        go false p false q true w = simp (within, u, sym m, past-mark, past-entry, p, q, w)
-        go false p false q false w = simp (within, u, sym m, past-mark, past-entry, p, q, w)
-
--- an index past the last entry reads zeros
-pub past-entries : (entries : Entries) (i : ℕ) → length entries ≡ 500 → 100 ≤ i → record { clock = 0; sum0 = 0; sum1 = 0 } ≡ entryAt entries i
-unfolding entryAt
-past-entries entries i l h =
-    rw (
-      List·getD-eq-default entries 0 {n = 5 * i} (omega arith),
-      List·getD-eq-default entries 0 {n = 5 * i + 1} (omega arith),
-      List·getD-eq-default entries 0 {n = 5 * i + 2} (omega arith),
-      List·getD-eq-default entries 0 {n = 5 * i + 3} (omega arith),
-      List·getD-eq-default entries 0 {n = 5 * i + 4} (omega arith),
-    )
+            → (z : Bool) → overwrites (ring .grid) (entryOf o) clock ≡ z → Moved
+        go true p y q z w = simp (h, u, sym m, past-mark, past-entry, p)
+        go false p true q z w = simp (h, u, sym m, past-mark, past-entry, p, q)
+        go false p false q true w = simp (h, u, sym m, past-mark, past-entry, p, q, w)
+        go false p false q false w = simp (h, u, sym m, past-mark, past-entry, p, q, w)
 
 -- ---- an update's number: its first test's that fails; past all of them it is the accepted one
 module _ (ring : Ring) (e : Entry) (clock price0 price1 : ℕ) where
   accepted-zero : afterOf ring (acceptedUpdate ring e clock price0 price1) .number ≡ 0
   unfolding acceptedUpdate
-  accepted-zero = go (ring .used) (still ring e clock) (overwrites e clock) _ _ _ _ _ _ _
+  accepted-zero = go (ring .used) (still ring e clock) (overwrites (ring .grid) e clock) _ _ _ _ _ _ _
     where
       go :
           (a b c : Bool) (w x y z : Ring) (o p q : Observation)

@@ -1,22 +1,23 @@
 -- What the cases of `Update` stand for, and the ring's update as the code answers it: a number, the head, and what the entries then hold.
 use Prim.Native.Nat.{ℕ}
+use mathlib.Core.Bool.{cond}
 use Rattle.wide.specs.Value.{value}
 use Rattle.oracle.specs.declared.Ring.{Ring}
 use Rattle.oracle.specs.declared.Observation.{Observation}
 use Rattle.oracle.specs.declared.RingAfter.{RingAfter}
 use Rattle.oracle.specs.declared.Update.{Update}
 use Rattle.oracle.specs.declared.Update.the-variants.{Refused, Kept, Stored}
-use Rattle.oracle.specs.Ring.{Entries, Entry, newest, withEntry, observed}
+use Rattle.oracle.specs.Ring.{Entries, Entry, outside, seen, withEntry, observed}
 
 -- an observation in whole numbers
 abbrev pub entryOf : Observation → Entry
 entryOf o = record { clock = o .clock; sum0 = value (o .sum0); sum1 = value (o .sum1) }
 
--- the entries that an update leaves: only `Stored` writes, at the index of the head that it gives
+-- the entries that an update leaves: only `Stored` writes, at the index of the head that it gives; outside the ring nothing is written
 abbrev pub storedIn : Entries → Update → Entries
 storedIn entries (Refused n) = entries
 storedIn entries (Kept ring) = entries
-storedIn entries (Stored ring o) = withEntry entries (ring .index) (entryOf o)
+storedIn entries (Stored ring o) = cond (outside ring) entries (withEntry entries (ring .index) (entryOf o))
 
 -- the number and the head: a refused update leaves the head as it was
 abbrev pub afterOf : Ring → Update → RingAfter
@@ -37,4 +38,4 @@ abbrev pub answerOf : Ring → Entries → Update → Answered
 answerOf ring entries u = answered (afterOf ring u .number) (afterOf ring u .ring) (storedIn entries u)
 
 unfoldable pub update : Ring → Entries → ℕ → ℕ → ℕ → Answered
-update ring entries clock price0 price1 = answerOf ring entries (observed ring (newest ring entries) clock price0 price1)
+update ring entries clock price0 price1 = answerOf ring entries (observed ring (seen ring entries) clock price0 price1)

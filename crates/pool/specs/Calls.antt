@@ -4,12 +4,12 @@
 use Prim.Native.Nat.{ℕ}
 use mathlib.Core.Bool.{Bool, true, false}
 use lib.ListN.{replicate}
-use Rattle.oracle.specs.Ring.{Entries, ringWords, newest}
+use Rattle.oracle.specs.Ring.{Entries, ringWords, seen}
 use Rattle.status.specs.Status.{statusAfter}
 use Rattle.settlement.specs.Settlement.{settlementAfter}
 use Rattle.liquidity.specs.Liquidity.{depositAfter, withdrawAfter}
 use Rattle.opening.specs.declared.Opening.{Opening}
-use Rattle.opening.specs.Opening.{zeroTerms, booksWith, openingAfter}
+use Rattle.opening.specs.Opening.{zeroTerms, zeroGrid, booksWith, openingAfter}
 use Rattle.swap.specs.Swap.{swapAfter}
 use Rattle.pool.specs.declared.state.Pool.{Pool}
 use Rattle.pool.specs.declared.state.After.{After}
@@ -18,7 +18,7 @@ use Rattle.pool.specs.State.{startWith, bookedIn, standingIn, swappedIn,
 
 -- ---- opening
 unfoldable pub zeroPool : Pool
-zeroPool = startWith (booksWith 0 0 0) zeroTerms
+zeroPool = startWith (booksWith 0 0 0) zeroTerms zeroGrid
 
 unfoldable pub zeroEntries : Entries
 zeroEntries = replicate ringWords 0
@@ -27,12 +27,12 @@ zeroEntries = replicate ringWords 0
 unfoldable pub opening : Opening → Done
 opening o =
     let a = openingAfter o in
-    record { after = record { pool = startWith (a .books) (a .terms); receipt = a .receipt }; entries = zeroEntries }
+    record { after = record { pool = startWith (a .books) (a .terms) (a .grid); receipt = a .receipt }; entries = zeroEntries }
 
 -- ---- the swaps
 unfoldable pub decisionOf : Bool → Pool → Entries → ℕ → ℕ → ℕ → ℕ → Decision
 decisionOf byInput p entries direction amount limit clock =
-    swappedIn p (swapAfter byInput (p .terms) (p .status) (p .books) (p .ring) (newest (p .ring) entries) direction amount limit clock)
+    swappedIn p (swapAfter byInput (p .terms) (p .status) (p .books) (p .ring) (seen (p .ring) entries) direction amount limit clock)
 
 unfoldable pub swapBaseInput : Pool → Entries → ℕ → ℕ → ℕ → ℕ → Done
 swapBaseInput p entries direction amount minimum clock = doneOf entries (decisionOf true p entries direction amount minimum clock)

@@ -28,7 +28,8 @@ impl Pool {
         let zeros = refuse_opening(ACCEPTED);
         let books = zeros.books;
         let terms = zeros.terms;
-        Pool::start(books, terms)
+        let grid = zeros.grid;
+        Pool::start(books, terms, grid)
     }
 
     // A new pool, and the ring's entries.
@@ -39,7 +40,8 @@ impl Pool {
         let receipt = opened.receipt;
         let books = opened.books;
         let terms = opened.terms;
-        let pool = Pool::start(books, terms);
+        let grid = opened.grid;
+        let pool = Pool::start(books, terms, grid);
         Opened {
             after: After { pool, receipt },
             entries: [0; RING_WORDS],

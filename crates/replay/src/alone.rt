@@ -105,8 +105,8 @@ pub(crate) fn lp_division(row: &[u64; ROW_NUMBERS]) -> bool {
 // The nets of a pool of which the other numbers are 0.
 pub(crate) fn nets(row: &[u64; ROW_NUMBERS]) -> bool {
     match pool_at(row, 2).nets() {
-        Nets::Of(net0, net1) => same(row, 27, 0, net0, net1, 0, 0),
-        Nets::Refused(number) => same(row, 27, number, 0, 0, 0, 0),
+        Nets::Of(net0, net1) => same(row, 29, 0, net0, net1, 0, 0),
+        Nets::Refused(number) => same(row, 29, number, 0, 0, 0, 0),
     }
 }
 
@@ -114,14 +114,14 @@ pub(crate) fn prices(row: &[u64; ROW_NUMBERS]) -> bool {
     match token_prices_x32(pool_at(row, 2)) {
         Prices::Of(price0, price1) => same(
             row,
-            27,
+            29,
             0,
             price0.high,
             price0.low,
             price1.high,
             price1.low,
         ),
-        Prices::Refused(number) => same(row, 27, number, 0, 0, 0, 0),
+        Prices::Refused(number) => same(row, 29, number, 0, 0, 0, 0),
     }
 }
 

@@ -50,10 +50,12 @@ pub(crate) fn opening(row: &[u64; ROW_NUMBERS]) -> bool {
         nth(row, 13),
         nth(row, 14),
         nth(row, 15),
+        nth(row, 16),
+        nth(row, 17),
     ]));
     let entries = opened.entries;
-    let expected = [nth(row, 59); RING_WORDS];
-    stand_at(&entries, &expected, 0) & after_agrees(opened.after, row, 16)
+    let expected = [nth(row, 63); RING_WORDS];
+    stand_at(&entries, &expected, 0) & after_agrees(opened.after, row, 18)
 }
 
 // The row's call, of four arguments; those that it lacks are 0.
@@ -94,8 +96,8 @@ fn call_of(row: &[u64; ROW_NUMBERS]) -> Call {
 
 // A call on a pool and its ring: receipt, pool and every number of the ring are compared.
 pub(crate) fn call(row: &[u64; ROW_NUMBERS]) -> bool {
-    let before = ring_at(row, 25, 31);
+    let before = ring_at(row, 25, 33);
     let mut entries = before;
     let after = apply(pool_at(row, 6), &mut entries, call_of(row));
-    ring_agrees(&entries, before, row, 73, 79) & after_agrees(after, row, 36)
+    ring_agrees(&entries, before, row, 75, 83) & after_agrees(after, row, 38)
 }

@@ -1,7 +1,7 @@
 // The ring's entries, of which a row gives the newest, and the ring alone.
 use crate::row::ROW_NUMBERS;
 use crate::row::nth;
-use crate::row::same;
+use oracle::Grid;
 use oracle::RING_WORDS;
 use oracle::Ring;
 use oracle::RingAfter;
@@ -24,7 +24,7 @@ fn with_entry(
     index_at: usize,
     at: usize,
 ) -> [u64; RING_WORDS]
-    requires { ⌜ («index_at» < 84) × (at ≤ 79) ⌝ }
+    requires { ⌜ («index_at» < 88) × (at ≤ 83) ⌝ }
 {
     let mut out = entries;
     let index = nth(row, index_at);
@@ -41,7 +41,7 @@ fn with_entry(
 
 // The ring before a call: its index and its newest entry are in the row.
 pub(crate) fn ring_at(row: &[u64; ROW_NUMBERS], index_at: usize, at: usize) -> [u64; RING_WORDS]
-    requires { ⌜ («index_at» < 84) × (at ≤ 79) ⌝ }
+    requires { ⌜ («index_at» < 88) × (at ≤ 83) ⌝ }
 {
     with_entry(filled(), row, index_at, at)
 }
@@ -54,36 +54,41 @@ pub(crate) fn ring_agrees(
     index_at: usize,
     at: usize,
 ) -> bool
-    requires { ⌜ («index_at» < 84) × (at ≤ 79) ⌝ }
+    requires { ⌜ («index_at» < 88) × (at ≤ 83) ⌝ }
 {
     let expected = with_entry(before, row, index_at, at);
     stand_at(entries, &expected, 0)
 }
 
-// What `Ring::update` gives: number, used, index, mark.
+// What `Ring::update` gives: number, used, index, mark, spacing, length.
 fn head_agrees(after: RingAfter, row: &[u64; ROW_NUMBERS]) -> bool {
     let ring = after.ring;
     let used = if ring.used { 1 } else { 0 };
-    same(
-        row,
-        13,
+    let grid = ring.grid;
+    let found = [
         after.number,
         used,
         ring.index,
         ring.mark,
-        nth(row, 17),
-    )
+        grid.spacing,
+        grid.length,
+    ];
+    stand_at(&found, row, 15)
 }
 
-// `Ring::update`: used, index, mark, entry, clock, nets.
+// `Ring::update`: used, index, mark, spacing, length, entry, clock, nets.
 pub(crate) fn update(row: &[u64; ROW_NUMBERS]) -> bool {
     let ring = Ring {
         index: nth(row, 3),
         mark: nth(row, 4),
         used: nth(row, 2) == 1,
+        grid: Grid {
+            spacing: nth(row, 5),
+            length: nth(row, 6),
+        },
     };
-    let before = ring_at(row, 3, 5);
+    let before = ring_at(row, 3, 7);
     let mut entries = before;
-    let after = ring.update(&mut entries, nth(row, 10), nth(row, 11), nth(row, 12));
-    head_agrees(after, row) & ring_agrees(&entries, before, row, 15, 17)
+    let after = ring.update(&mut entries, nth(row, 12), nth(row, 13), nth(row, 14));
+    head_agrees(after, row) & ring_agrees(&entries, before, row, 17, 21)
 }

@@ -5,11 +5,11 @@ use words::pool_of;
 ghost use Prim.Native.Nat.{_≤_, _<_};
 
 // How many numbers the longest row has: that of a call, with four arguments, a pool, an entry, a receipt, a pool and an entry.
-pub(crate) const ROW_NUMBERS: usize = 84;
+pub(crate) const ROW_NUMBERS: usize = 88;
 
 // One number of a row.
 pub(crate) fn nth(row: &[u64; ROW_NUMBERS], i: usize) -> u64
-    requires { ⌜ i < 84 ⌝ }
+    requires { ⌜ i < 88 ⌝ }
 {
     row[i]
 }
@@ -24,7 +24,7 @@ pub(crate) fn same(
     d: u64,
     e: u64,
 ) -> bool
-    requires { ⌜ at ≤ 79 ⌝ }
+    requires { ⌜ at ≤ 83 ⌝ }
 {
     (nth(row, at) == a)
         & (nth(row, at + 1) == b)
@@ -33,9 +33,9 @@ pub(crate) fn same(
         & (nth(row, at + 4) == e)
 }
 
-// The pool of 25 numbers from a place on, in the order of `words`.
+// The pool of 27 numbers from a place on, in the order of `words`.
 pub(crate) fn pool_at(row: &[u64; ROW_NUMBERS], at: usize) -> Pool
-    requires { ⌜ at ≤ 59 ⌝ }
+    requires { ⌜ at ≤ 61 ⌝ }
 {
     let mut numbers = [0u64; POOL_WORDS];
     for i in 0..POOL_WORDS {

@@ -8,6 +8,7 @@ use Rattle.refusal.specs.Tests.{first}
 use Rattle.rates.specs.declared.Rates.{Rates}
 use Rattle.rates.specs.Rates.{rateTests}
 use Rattle.charge.specs.Charge.{noCharges}
+use Rattle.oracle.specs.declared.Grid.{Grid}
 use Rattle.oracle.specs.Ring.{Entries}
 use Rattle.receipt.specs.declared.Receipt.{Receipt}
 use Rattle.pool.specs.declared.state.Pool.{Pool}
@@ -62,6 +63,10 @@ replaced s d = cond (eqb (d .after .receipt .number) 0) (called s d) (refusedRow
 abbrev pub unlessSpare : Bool → Sheet → Turn → Turn
 unlessSpare spare s t = cond spare t (refusedRow s UnreadableRow)
 
+-- the day sheet opens with a spacing of 15 and a length of 100 (document 02 (f))
+abbrev pub dayGrid : Grid
+dayGrid = record { spacing = 15; length = 100 }
+
 -- kind 1: amounts, model, enabled, open time; the rates are those of the last accepted row of kind 0, and no token carries a charge
 abbrev pub openingWith : ℕ → ℕ → ℕ → ℕ → ℕ → Rates → Opening
 openingWith amount0 amount1 model enabled openTime rates = record {
@@ -72,6 +77,7 @@ openingWith amount0 amount1 model enabled openTime rates = record {
   «open_time» = openTime;
   rates = rates;
   charges = noCharges;
+  grid = dayGrid;
 }
 
 unfoldable pub perform : Sheet → Row → Turn

@@ -7,6 +7,7 @@ use memory::lent::open_on;
 use memory::record::record_number;
 use memory::record::refuse;
 use opening::Opening;
+use oracle::Grid;
 use oracle::RING_WORDS;
 use rates::Rates;
 use rates::rate_number;
@@ -35,6 +36,11 @@ ghost use Rattle.sheet.specs.Stages.{calledFor};
 
 // The kind of a row that is no call: rates for the next opening.
 const RATES: u64 = 0;
+
+// The day sheet opens with this spacing and this length.
+const DAY_SPACING: u64 = 15;
+
+const DAY_LENGTH: u64 = 100;
 
 // The two amounts of an answer.
 pub struct Amounts {
@@ -114,6 +120,10 @@ fn perform_kind(
                 open_time: e,
                 rates,
                 charges,
+                grid: Grid {
+                    spacing: DAY_SPACING,
+                    length: DAY_LENGTH,
+                },
             };
             open_on(pool, ring, receipt, opening);
             rates

@@ -32,11 +32,11 @@ abbrev kinds : List Receipt → List ℕ
 kinds xs = map (λ (x : Receipt). x .kind) xs
 
 abbrev someArguments : ℕ → ℕ → List ℕ
-someArguments amount0 amount1 = amount0 ∷ amount1 ∷ 0 ∷ 1 ∷ 0 ∷ 2500 ∷ 120000 ∷ 40000 ∷ 1000 ∷ 100000 ∷ 100 ∷ 50 ∷ 25 ∷ 1000000 ∷ []
+someArguments amount0 amount1 = amount0 ∷ amount1 ∷ 0 ∷ 1 ∷ 0 ∷ 2500 ∷ 120000 ∷ 40000 ∷ 1000 ∷ 100000 ∷ 100 ∷ 50 ∷ 25 ∷ 1000000 ∷ 60 ∷ 2 ∷ []
 
 -- ---- the library: an accepted opening with charges in a memory of zeros, and a call of each kind after it, all of them accepted
 abbrev someMemory : Memory
-someMemory = openedOn (replicate 25 0) (replicate 500 0) (replicate 18 0) (someArguments 1000000 4000000)
+someMemory = openedOn (replicate 27 0) (replicate 500 0) (replicate 18 0) (someArguments 1000000 4000000)
 
 pub opening-accepted : someMemory .number ≡ 0
 unfolding all untouched stored openedOn
@@ -83,7 +83,7 @@ third-row = rw example (record { in-net0 = refl; in-net1 = refl; in-supply = ref
 
 -- ---- one memory
 abbrev zeroLent : Lent
-zeroLent = record { pool = replicate 25 0; entries = replicate 500 0; receipt = replicate 18 0 }
+zeroLent = record { pool = replicate 27 0; entries = replicate 500 0; receipt = replicate 18 0 }
 
 -- a day sheet's rates, opening and swap
 pub sheet-accepted : kinds (receiptsBy zeroLent (piece (replicate 6 0) (replicate 103 0) (rowsOf input) (replicate 309 0) (replicate 2 0))) ≡ 0 ∷ 1 ∷ 2 ∷ []

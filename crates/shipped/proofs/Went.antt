@@ -43,7 +43,7 @@ pub zeros-sound : SoundAt (start 0 0) zeroState
 unfolding zeroPool zeroEntries entryAt heldBooks start root rootAt
 zeros-sound = record {
   sound = record {
-    ring-sound = record { inside = omega arith; whole = refl; behind = λ e. absurd (false≢true e); fresh = λ e. (refl, refl) };
+    ring-sound = record { whole = refl; behind = λ e. absurd (false≢true e); fresh = λ e. (refl, refl) };
     covered = record { covered0 = omega arith; covered1 = omega arith };
   };
   floor = omega arith;

@@ -1,6 +1,6 @@
 -- Document 01, 'Swap by input' (direction, amount, minimum, clock) and 'Swap by output' (direction, amount, maximum, clock), with
--- document 02 (a), (b) and (c), over a pool's terms t, status and books b, the ring's head and its newest entry e. zeroIn is true where token 0 goes
--- in (direction 0).
+-- document 02 (a), (b), (c) and (f), over a pool's terms t, status and books b, the ring's head and its newest entry e, as an update sees it. zeroIn is
+-- true where token 0 goes in (direction 0).
 use Prim.Native.Nat.{ℕ, _+_, _-_}
 use mathlib.Core.Bool.{Bool, true, false}
 use mathlib.Core.List.{_∷_}

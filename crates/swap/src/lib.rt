@@ -31,7 +31,7 @@ ghost use mathlib.Core.Path.{_≡_};
 ghost use Prim.Native.Nat.{_+_, _≤_};
 ghost use Rattle.refusal.specs.Tests.{U64};
 ghost use Rattle.accounting.specs.Counters.{ofToken};
-ghost use Rattle.oracle.specs.Ring.{newest};
+ghost use Rattle.oracle.specs.Ring.{seen};
 ghost use Rattle.oracle.specs.Update.{entryOf};
 ghost use Rattle.swap.specs.Swap.{refusedSwap, paidBooks, swapReceipt, swapAfter};
 ghost use Rattle.swap.specs.Stages.{bookedSwap};
@@ -174,7 +174,7 @@ pub fn decide(
     limit: u64,
     clock: u64,
 ) -> SwapAfter
-    ensures { λ r. ⌜ r ≡ swapAfter «by_input» terms status books ring (newest ring (now (entries .entry))) direction amount limit clock ⌝ }
+    ensures { λ r. ⌜ r ≡ swapAfter «by_input» terms status books ring (seen ring (now (entries .entry))) direction amount limit clock ⌝ }
 {
     let quote = quote_swap(
         by_input,
@@ -194,7 +194,7 @@ pub fn decide(
     let zero_fee = creator_token(fee_on_input, zero_in);
     let result = quote.result;
     let charged = quote.charged;
-    let newest = ring.newest(entries);
+    let newest = ring.seen(entries);
     book(
         by_input,
         zero_in,

@@ -1,4 +1,5 @@
--- The order of the numbers: the pool's record, its ring's head, its tokens' charges last; the receipt. And what it is for numbers to stand in a row.
+-- The order of the numbers: the pool's record, its ring's head, its tokens' charges, the ring's spacing and length last; the receipt. And what it is
+-- for numbers to stand in a row.
 use Prim.Native.Nat.{ℕ}
 use mathlib.Core.Bool.{Bool, true, false, cond}
 use mathlib.Core.List.{List, [], _∷_}
@@ -13,7 +14,7 @@ use Rattle.words.specs.declared.Holdings.{Holdings}
 
 -- the numbers of a record, and the places of its two flags
 abbrev pub poolLength : ℕ
-poolLength = 25
+poolLength = 27
 
 abbrev pub enabledAt : ℕ
 enabledAt = 12
@@ -34,6 +35,7 @@ poolWords p =
     ∷ word (p .ring .used) ∷ p .ring .index ∷ p .ring .mark
     ∷ p .terms .charges .token0 .points ∷ p .terms .charges .token0 .maximum
     ∷ p .terms .charges .token1 .points ∷ p .terms .charges .token1 .maximum
+    ∷ p .ring .grid .spacing ∷ p .ring .grid .length
     ∷ []
 
 abbrev pub receiptWords : Receipt → List ℕ
@@ -62,6 +64,7 @@ openingOf w = record {
   «open_time» = at w 4;
   rates = record { trade = at w 5; protocol = at w 6; fund = at w 7; creator = at w 8; share = at w 9 };
   charges = record { token0 = record { points = at w 10; maximum = at w 11 }; token1 = record { points = at w 12; maximum = at w 13 } };
+  grid = record { spacing = at w 14; length = at w 15 };
 }
 
 abbrev pub poolOf : List ℕ → Pool
@@ -80,7 +83,7 @@ poolOf w = record {
     enabled = eqb (at w enabledAt) 1;
   };
   status = at w 9;
-  ring = record { used = eqb (at w usedAt) 1; index = at w 19; mark = at w 20 };
+  ring = record { used = eqb (at w usedAt) 1; index = at w 19; mark = at w 20; grid = record { spacing = at w 25; length = at w 26 } };
 }
 
 abbrev pub receiptOf : List ℕ → Receipt

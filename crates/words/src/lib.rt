@@ -6,6 +6,7 @@ use charge::Charge;
 use charge::Charged;
 use charge::Charges;
 use opening::Opening;
+use oracle::Grid;
 use oracle::Ring;
 use pool::state::Pool;
 use rates::Rates;
@@ -21,13 +22,13 @@ ghost use lib.ListN.{drop};
 ghost use Rattle.words.specs.Words.{poolWords, receiptWords, ratesOf, openingOf, poolOf, receiptOf, holdingsOf, shareOf, beginsWith};
 
 // How many numbers a pool's record has.
-pub const POOL_WORDS: usize = 25;
+pub const POOL_WORDS: usize = 27;
 
 // How many numbers a receipt has.
 pub const RECEIPT_WORDS: usize = 18;
 
 // How many arguments an opening has.
-pub const OPENING_WORDS: usize = 14;
+pub const OPENING_WORDS: usize = 16;
 
 // The place in the record that says whether creator fees are enabled.
 pub const ENABLED_AT: usize = 12;
@@ -86,6 +87,8 @@ pub fn pool_words(p: Pool) -> [u64; POOL_WORDS]
         terms.charges.token0.maximum,
         terms.charges.token1.points,
         terms.charges.token1.maximum,
+        p.ring.grid.spacing,
+        p.ring.grid.length,
     ]
 }
 
@@ -144,7 +147,7 @@ fn charges_of(points0: u64, maximum0: u64, points1: u64, maximum1: u64) -> Charg
     }
 }
 
-// Fourteen numbers as the arguments of an opening, the rates and then the charges last.
+// Sixteen numbers as the arguments of an opening: behind those of document 01 the charges, then the ring's spacing and length.
 pub fn opening_of(w: [u64; OPENING_WORDS]) -> Opening
     ensures { λ r. ⌜ r ≡ openingOf w ⌝ }
 {
@@ -163,6 +166,10 @@ pub fn opening_of(w: [u64; OPENING_WORDS]) -> Opening
             share: w[9],
         },
         charges,
+        grid: Grid {
+            spacing: w[14],
+            length: w[15],
+        },
     }
 }
 
@@ -203,6 +210,10 @@ pub fn pool_of(w: [u64; POOL_WORDS]) -> Pool
             used: w[USED_AT] == 1,
             index: w[19],
             mark: w[20],
+            grid: Grid {
+                spacing: w[25],
+                length: w[26],
+            },
         },
     }
 }

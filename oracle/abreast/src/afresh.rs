@@ -2,7 +2,7 @@
 //! receipts in turn, with nothing taken from pool or ring.
 
 use crate::wide::product;
-use record::LOCKED_LP;
+use record::{LOCKED_LP, POOL_LENGTH};
 
 /// Where a receipt of the port has its numbers.
 const KIND: usize = 1;
@@ -90,7 +90,7 @@ impl Afresh {
 
 impl Books {
     /// What the port's memory holds.
-    pub fn held(pool: &[u64; 25], ring: &[u64; 500]) -> Books {
+    pub fn held(pool: &[u64; POOL_LENGTH], ring: &[u64; 500]) -> Books {
         let pair = |at: usize| [pool[at], pool[at + 1]].map(u128::from);
         let newest = 5 * pool[19].min(99) as usize;
         let sum = |at: usize| u128::from(ring[newest + at]) << 64 | u128::from(ring[newest + at + 1]);

@@ -2,8 +2,7 @@
 
 use crate::sides::{asked, FILL};
 use crate::tally::Tally;
-use beside::generator::charges::Charges;
-use beside::generator::hand;
+use beside::generator::{hand, Draws};
 use beside::random::Random;
 use port::Port;
 use record::Case;
@@ -13,8 +12,8 @@ const FLAGS: [usize; 2] = [12, 18];
 const INVALID_INPUT: u64 = 3;
 const WRONG_FLAG_ONE_IN: u64 = 100;
 
-pub fn run_one(random: &mut Random, charges: Charges, tally: &mut Tally) {
-    let case = hand::case(random, charges);
+pub fn run_one(random: &mut Random, draws: Draws, tally: &mut Tally) {
+    let case = hand::case(random, draws);
     run_case(&case, tally);
     if random.chance(WRONG_FLAG_ONE_IN) {
         wrong_flag(random, &case, tally);

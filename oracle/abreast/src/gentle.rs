@@ -1,8 +1,7 @@
 //! Lists that a pool lives long with: openings of some size, swaps and changes of LP that leave
-//! most of it, and a clock that goes on by seconds.
+//! most of it, and a clock that goes on by less than the ring's spacing or by more.
 
-use beside::generator::charges::Charges;
-use beside::generator::list;
+use beside::generator::{grids, list, Draws};
 use beside::random::Random;
 use record::{Case, Opening, Rates, State, LOCKED_LP};
 
@@ -12,14 +11,15 @@ const FREE_ONE_IN: u64 = 8;
 const DRAINED_ONE_IN: u64 = 200;
 const REFUSED_ONE_IN: u64 = 10;
 
-pub fn opening(random: &mut Random, charges: Charges) -> Case {
+pub fn opening(random: &mut Random, draws: Draws) -> Case {
     let amounts = [1_000_000 + (random.word() >> random.below(40)) / 4, 1_000_000 + random.sized() / 4];
     let (protocol, fund, share) = (random.below(500_000), random.below(500_000), random.below(1_000_001));
     let free = random.chance(FREE_ONE_IN);
     let (trade, creator) = if free { (0, 0) } else { (1 + random.below(20_000), random.below(20_000)) };
     let rates = Rates { trade, protocol, fund, creator, share };
     let (fee_model, enabled) = (random.below(3), random.below(2));
-    list::of(Opening { amounts, fee_model, enabled, open_time: 0, rates, charges: charges(random) })
+    let (charges, grid) = ((draws.charges)(random), (draws.grids)(random));
+    list::of(Opening { amounts, fee_model, enabled, open_time: 0, rates, charges, grid })
 }
 
 pub fn call(random: &mut Random, state: &State) -> Case {
@@ -40,7 +40,7 @@ fn swap(random: &mut Random, state: &State, kind: u64) -> Vec<u64> {
     let (token, wide) = if kind == 2 { (direction, 0) } else { (1 - direction, u64::MAX) };
     let amount = some_of(random, state.pool.vaults[token as usize]);
     let limit = if random.chance(10) { random.near(amount) } else { wide };
-    let clock = state.pool.head.mark + random.below(40);
+    let clock = state.pool.head.mark + grids::seconds(random, state.pool.grid);
     vec![direction, amount, limit, clock]
 }
 

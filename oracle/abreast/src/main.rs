@@ -5,20 +5,24 @@ mod by_hand;
 mod gentle;
 mod lists;
 mod report;
+mod rings;
 mod sides;
 mod tally;
 mod wide;
 
-use beside::generator::charges::{self, Charges};
-use beside::generator::small;
+use beside::generator::{charges, grids, small, Draws};
 use beside::random::Random;
 use beside::{bounds, differences, edges, late};
 use std::process::ExitCode;
-use tally::Tally;
+use tally::{Group, Tally};
 
 const USAGE: &str = "usage: abreast SEED COUNT | abreast small";
-/// For so many calls at points 0 there is one on a pool with charges.
-const CHARGED_ONE_FOR: u64 = 4;
+/// For so many calls at points 0, spacing 15 and length 100 there is one on a pool with charges, and one on
+/// a pool with another spacing or length.
+const OTHER_ONE_FOR: u64 = 4;
+/// At points 0, so that the original can be asked about all but the ring.
+const OTHER_GRID: Draws = Draws { charges: charges::none, grids: grids::other };
+const CHARGED: Draws = Draws { charges: charges::some, grids: grids::mixed };
 
 fn main() -> ExitCode {
     let words: Vec<String> = std::env::args().skip(1).collect();
@@ -47,28 +51,29 @@ fn all_small() -> Tally {
     tally
 }
 
-/// The edges, the bounds and the rows of docs/DIFFERENCES.md; then as many calls at points 0 as are asked
-/// for, and more on pools with charges, where the original is not asked.
+/// The edges, the bounds and the rows of docs/DIFFERENCES.md; then as many calls at points 0, spacing 15 and
+/// length 100 as are asked for, more on pools of another spacing or length, and more on pools with charges.
 fn compared(seed: u64, count: u64) -> Tally {
-    let charged = count / CHARGED_ONE_FOR;
+    let other = count / OTHER_ONE_FOR;
     let mut random = Random::new(seed);
-    let mut tally = Tally::of(count + charged);
+    let mut tally = Tally::of(count + 2 * other);
     for case in [edges::cases(), bounds::cases(), differences::cases(), late::cases()].concat() {
         by_hand::run_case(&case, &mut tally);
     }
-    generated(&mut random, charges::none, &mut tally, |tally| tally.calls - tally.charged_calls >= count);
-    generated(&mut random, charges::some, &mut tally, |tally| tally.charged_calls >= charged);
+    generated(&mut random, Draws::USUAL, &mut tally, |tally| tally.on_pools[Group::Usual] >= count);
+    generated(&mut random, OTHER_GRID, &mut tally, |tally| tally.on_pools[Group::OtherGrid] >= other);
+    generated(&mut random, CHARGED, &mut tally, |tally| tally.on_pools[Group::Charged] >= other);
     tally
 }
 
 /// Lists from openings and calls by hand in turn, as many of one as of the other.
-fn generated(random: &mut Random, charges: Charges, tally: &mut Tally, enough: impl Fn(&Tally) -> bool) {
+fn generated(random: &mut Random, draws: Draws, tally: &mut Tally, enough: impl Fn(&Tally) -> bool) {
     let mut lists = lists::Lists::new();
     while !enough(tally) {
         let before = tally.calls;
-        lists.run_one(random, charges, tally);
+        lists.run_one(random, draws, tally);
         for _ in before..tally.calls {
-            by_hand::run_one(random, charges, tally);
+            by_hand::run_one(random, draws, tally);
         }
     }
 }

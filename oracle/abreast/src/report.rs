@@ -1,6 +1,7 @@
 //! The result, as it goes into docs/COMPARISON.md.
 
-use crate::tally::{Answers, Tally};
+use crate::rings::{LENGTHS, SPACINGS};
+use crate::tally::{Answers, Group, Tally};
 use beside::verdict::Side;
 use std::fmt::Write;
 
@@ -11,8 +12,11 @@ pub fn page(tally: &Tally, command: &str) -> String {
     let mut page = String::new();
     let put = "a String can always be written";
     writeln!(page, "{}", sentence(tally, command)).expect(put);
-    writeln!(page, "\n{}", answers("call", &tally.answers)).expect(put);
-    writeln!(page, "{}", answers("call with charges", &tally.charged_answers)).expect(put);
+    writeln!(page, "\n{}", answers("call", &tally.answers[Group::Usual])).expect(put);
+    let other_grid = "call at another spacing or length";
+    writeln!(page, "{}", answers(other_grid, &tally.answers[Group::OtherGrid])).expect(put);
+    writeln!(page, "{}", answers("call with charges", &tally.answers[Group::Charged])).expect(put);
+    writeln!(page, "{}", pairs(tally)).expect(put);
     writeln!(page, "{}", classes(tally)).expect(put);
     for fault in &tally.faults {
         writeln!(page, "FAULT {}: `{}`", fault.what, fault.case).expect(put);
@@ -22,12 +26,15 @@ pub fn page(tally: &Tally, command: &str) -> String {
 
 fn sentence(tally: &Tally, command: &str) -> String {
     format!(
-        "`oracle/compare {command}`: {} calls in {:.0} s, {} of them on pools with charges.\n\n{}\n{}\n{}",
+        "`oracle/compare {command}`: {} calls in {:.0} s, {} of them on pools of another spacing or length and \
+         {} on pools with charges.\n\n{}\n{}\n{}\n{}",
         grouped(tally.calls),
         tally.seconds(),
-        grouped(tally.charged_calls),
+        grouped(tally.on_pools[Group::OtherGrid]),
+        grouped(tally.on_pools[Group::Charged]),
         port_side(tally),
         original_side(tally),
+        ring_side(tally),
         claims(tally),
     )
 }
@@ -55,16 +62,38 @@ fn original_side(tally: &Tally) -> String {
     )
 }
 
-fn claims(tally: &Tally) -> String {
+/// Swaps on rings of another spacing or length, with charges or without.
+fn ring_side(tally: &Tally) -> String {
+    let rings = &tally.rings;
     format!(
-        "- demand 3's claims over {} lists ({} calls, {} rounds of the ring; {} lists and {} calls of these \
-         with charges): {} points afresh, floor, supply at least 100 and nets above 0 ({} points at just \
-         100, with which {} lists end), {} pairs of points rise, **{} failures**",
-        grouped(tally.lists),
-        grouped(tally.list_calls),
-        grouped(tally.ring_rounds),
-        grouped(tally.charged_lists),
-        grouped(tally.charged_list_calls),
+        "- swaps at another spacing or length: {} at a ring's first use, {} overwrote its newest entry, {} moved \
+         on, {} of these to its first; 11 in the ring's first step for a length above 100 {} times, for an index \
+         at the length {}, for one past it {}",
+        grouped(rings.begun),
+        grouped(rings.overwritten),
+        grouped(rings.moved_on),
+        grouped(rings.around),
+        grouped(rings.too_long),
+        grouped(rings.at_length),
+        grouped(rings.past_length),
+    )
+}
+
+fn claims(tally: &Tally) -> String {
+    let of_lists = |group| {
+        let (lists, calls) = (grouped(tally.lists[group]), grouped(tally.list_calls[group]));
+        format!("{lists} lists, {calls} calls and {} rounds", grouped(tally.ring_rounds[group]))
+    };
+    format!(
+        "- demand 3's claims over {} lists ({} calls, {} rounds of the ring; {} of these at another spacing or \
+         length, {} with charges): {} points afresh, floor, supply at least 100, nets above 0 ({} points at just \
+         100, with which {} lists end), spacing and length the opening's, index before the length and no entry \
+         written at or past it, {} pairs of points rise, **{} failures**",
+        grouped(tally.lists.sum()),
+        grouped(tally.list_calls.sum()),
+        grouped(tally.ring_rounds.sum()),
+        of_lists(Group::OtherGrid),
+        of_lists(Group::Charged),
         grouped(tally.points),
         grouped(tally.drained_points),
         grouped(tally.drained_lists),
@@ -89,6 +118,17 @@ fn answers(title: &str, answers: &Answers) -> String {
         let name = record::form(kind).expect("every call has its form").name;
         let counts: Vec<String> = seen.iter().map(|number| grouped(count(kind, *number))).collect();
         table += &format!("| `{name}` | {} |\n", counts.join(" | "));
+    }
+    table
+}
+
+/// All calls by the spacing and length of their pool, or of what they open.
+fn pairs(tally: &Tally) -> String {
+    let names = LENGTHS.map(|(_, name)| name);
+    let mut table =
+        format!("| calls by spacing, and by length | {} |\n|---|{}\n", names.join(" | "), "---:|".repeat(7));
+    for ((_, name), counts) in SPACINGS.iter().zip(tally.rings.calls) {
+        table += &format!("| {name} | {} |\n", counts.map(grouped).join(" | "));
     }
     table
 }

@@ -4,7 +4,7 @@ use crate::tally::Tally;
 use beside::verdict::{classed, Side};
 use model::After;
 use port::Port;
-use record::{call_answer, Call, Case, State};
+use record::{call_answer, Answer, Call, Case, State};
 use runner::Outcome;
 
 /// Fills what the call has to write, or may not.
@@ -22,12 +22,25 @@ pub fn asked(before: &State, case: &Case, port: &mut Port, tally: &mut Tally) ->
     let call = case.call().expect("only calls are put to the port");
     let document = model::run(before, &call);
     tally.answered(case, document.number);
+    tally.rings.count(before, case, &document);
     port_side(case, &call, &document, port, tally);
+    if case.kind != 1 {
+        past_length_side(before, case, port, tally);
+    }
+    let answer = call_answer(case.kind, document.number, &document.receipt, &document.state);
     match case.left_to_model() {
-        Some(left) => tally.left_to_model(left, document.number, case),
-        None => original_side(before, case, &call, &document, tally),
+        Some(left) => tally.left_to_model(left, &answer, case),
+        None => original_side(before, case, &call, (&document, &answer), tally),
     }
     document
+}
+
+/// No call writes to entries at or past the length; only an opening sets them to 0.
+fn past_length_side(before: &State, case: &Case, port: &Port, tally: &mut Tally) {
+    let used = before.pool.grid.used_words();
+    if port.ring[used..] != before.ring.as_flattened()[used..] {
+        tally.port_fault("an entry at or past the length is written".into(), case);
+    }
 }
 
 /// The port gives the rules' whole answer, and of a refused call writes only the receipt.
@@ -69,8 +82,13 @@ fn differing(number: u64, port: &Port, expected_number: u64, expected: &Port) ->
 }
 
 /// The original gives the same whole answer, or differs as a row of docs/DIFFERENCES.md says.
-fn original_side(before: &State, case: &Case, call: &Call, document: &After, tally: &mut Tally) {
-    let answer = call_answer(case.kind, document.number, &document.receipt, &document.state);
+fn original_side(
+    before: &State,
+    case: &Case,
+    call: &Call,
+    (document, answer): (&After, &Answer),
+    tally: &mut Tally,
+) {
     let original = match runner::run(before, call) {
         Err(reason) => Outcome::Absent(reason),
         Ok(run) => {
@@ -81,7 +99,7 @@ fn original_side(before: &State, case: &Case, call: &Call, document: &After, tal
             run.outcome(case.kind)
         }
     };
-    let (side, class) = classed(case, &answer, &original);
+    let (side, class) = classed(case, answer, &original);
     if side == Side::Unlisted {
         tally.original_fault(class, case);
     } else if !class.is_empty() {

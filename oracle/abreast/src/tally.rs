@@ -1,12 +1,14 @@
 //! What was counted, and the faults.
 
+use crate::rings::Rings;
 use crate::sides::Fault;
 use beside::generator::charges::most_arriving;
 use beside::left::{is_as_told, LeftCounts};
 use beside::page;
 use beside::verdict::Side;
-use record::{Call, Case, Left, LOCKED_LP};
+use record::{Answer, Call, Case, Grid, Left, LOCKED_LP};
 use std::collections::BTreeMap;
+use std::ops::{Index, IndexMut};
 use std::time::Instant;
 
 /// Faults past this number are only counted.
@@ -22,15 +24,59 @@ pub struct Class {
 
 pub type Answers = BTreeMap<(u64, u64), u64>;
 
+/// What a call is counted with: points above 0 of either token, else another spacing than 15 or another
+/// length than 100, else neither.
+#[derive(Clone, Copy)]
+pub enum Group {
+    Usual,
+    OtherGrid,
+    Charged,
+}
+
+impl Group {
+    pub fn of(case: &Case) -> Group {
+        if case.bears_charges() {
+            Group::Charged
+        } else if case.grid() != Some(Grid::DEFAULT) {
+            Group::OtherGrid
+        } else {
+            Group::Usual
+        }
+    }
+}
+
+/// One of each group.
+#[derive(Default)]
+pub struct Groups<T>([T; 3]);
+
+impl<T> Index<Group> for Groups<T> {
+    type Output = T;
+
+    fn index(&self, group: Group) -> &T {
+        &self.0[group as usize]
+    }
+}
+
+impl<T> IndexMut<Group> for Groups<T> {
+    fn index_mut(&mut self, group: Group) -> &mut T {
+        &mut self.0[group as usize]
+    }
+}
+
+impl Groups<u64> {
+    pub fn sum(&self) -> u64 {
+        self.0.iter().sum()
+    }
+}
+
 pub struct Tally {
     wanted: u64,
     start: Instant,
     pub calls: u64,
-    /// Calls on pools with points above 0; openings are on none.
-    pub charged_calls: u64,
-    /// By kind and number, at points 0 and with points above 0.
-    pub answers: Answers,
-    pub charged_answers: Answers,
+    /// Calls on pools of each group; openings are on none.
+    pub on_pools: Groups<u64>,
+    /// By kind and number.
+    pub answers: Groups<Answers>,
     /// Where 14 was answered: for a swap's output, its input, a deposit.
     pub fourteens: [u64; 3],
     /// Withdrawals that left just the locked LP, and those refused with 15: for all LP, for one too many.
@@ -41,12 +87,11 @@ pub struct Tally {
     pub left: LeftCounts,
     /// Calls on records with a flag that is neither 0 nor 1.
     pub wrong_flags: u64,
-    pub lists: u64,
-    pub list_calls: u64,
-    pub charged_lists: u64,
-    pub charged_list_calls: u64,
-    /// Lists that went once around the ring.
-    pub ring_rounds: u64,
+    pub lists: Groups<u64>,
+    pub list_calls: Groups<u64>,
+    /// How often lists went around the ring.
+    pub ring_rounds: Groups<u64>,
+    pub rings: Rings,
     pub points: u64,
     pub pairs: u64,
     /// Points with just the locked LP, and lists that end with one.
@@ -64,20 +109,18 @@ impl Tally {
             wanted,
             start: Instant::now(),
             calls: 0,
-            charged_calls: 0,
-            answers: BTreeMap::new(),
-            charged_answers: BTreeMap::new(),
+            on_pools: Groups::default(),
+            answers: Groups::default(),
             fourteens: [0; 3],
             drained: 0,
             fifteens: [0; 2],
             classes: BTreeMap::new(),
             left: LeftCounts::default(),
             wrong_flags: 0,
-            lists: 0,
-            list_calls: 0,
-            charged_lists: 0,
-            charged_list_calls: 0,
-            ring_rounds: 0,
+            lists: Groups::default(),
+            list_calls: Groups::default(),
+            ring_rounds: Groups::default(),
+            rings: Rings::default(),
             points: 0,
             pairs: 0,
             drained_points: 0,
@@ -98,10 +141,9 @@ impl Tally {
     }
 
     pub fn answered(&mut self, case: &Case, number: u64) {
-        let charged = case.bears_charges();
-        let answers = if charged { &mut self.charged_answers } else { &mut self.answers };
-        *answers.entry((case.kind, number)).or_default() += 1;
-        self.charged_calls += u64::from(charged && case.kind != 1);
+        let group = Group::of(case);
+        *self.answers[group].entry((case.kind, number)).or_default() += 1;
+        self.on_pools[group] += u64::from(case.kind != 1);
         if number == 14 {
             self.fourteens[place_of_14(case)] += 1;
         }
@@ -145,9 +187,10 @@ impl Tally {
     }
 
     /// A case of which document 02 says otherwise should not have been left.
-    pub fn left_to_model(&mut self, left: Left, number: u64, case: &Case) {
+    pub fn left_to_model(&mut self, left: Left, document: &Answer, case: &Case) {
         self.left.add(left);
-        if !is_as_told(left, case, number) {
+        if !is_as_told(left, case, document) {
+            let number = document.number;
             self.original_fault(format!("{left}: not so, where the rules give {number}"), case);
         }
     }

@@ -4,11 +4,12 @@
 
 mod charges;
 mod division;
+mod grid;
 mod locked;
 
 use crate::left::LeftCounts;
 use crate::verdict::{verdict, Side};
-use record::{filled_ring, Case, Entry, Pool, Rates, RingHead, State};
+use record::{filled_ring, Case, Entry, Grid, Pool, Rates, RingHead, State};
 use record::{POOL_COLUMNS, POOL_LENGTH, RECEIPT_COLUMNS};
 
 struct Bound {
@@ -61,8 +62,8 @@ fn bounds() -> Vec<Bound> {
         lp_tokens(),
         bookings(),
     ];
-    let requested = [charges::bounds(), division::bounds(), locked::bounds()].into_iter().flatten();
-    named.into_iter().flatten().chain(requested).flat_map(Bound::with_mirror).collect()
+    let requested = [charges::bounds(), division::bounds(), locked::bounds(), grid::bounds()];
+    named.into_iter().chain(requested).flatten().flat_map(Bound::with_mirror).collect()
 }
 
 impl Bound {
@@ -128,7 +129,7 @@ fn mirrored(case: &Case) -> Case {
         22 => (&[(2, 3)], None, None),
         31 | 32 => (&VAULTS, None, None),
         33 => (&[(0, 1), (2, 3), (4, 5)], Some(6), Some(7)),
-        36 => (&[(4, 6), (5, 7), (9, 10)], None, None),
+        36 => (&[(6, 8), (7, 9), (11, 12)], None, None),
         _ => (&[], None, None),
     };
     let pool: &[&[(usize, usize)]] = if matches!(case.kind, 2..=7) { &[&VAULTS, &CHARGES] } else { &[] };
@@ -168,12 +169,17 @@ fn rated(trade: u64, protocol: u64, fund: u64, creator: u64, share: u64) -> Rate
 /// The worked day's pool.
 fn day() -> Pool {
     let rates = rated(2500, 120_000, 40_000, 0, 0);
-    Pool { vaults: [MILLION, 4 * MILLION], supply: 2 * MILLION, rates, ..Pool::default() }
+    Pool { vaults: [MILLION, 4 * MILLION], supply: 2 * MILLION, rates, ..usual() }
+}
+
+/// A pool of zeros but for spacing 15 and length 100.
+fn usual() -> Pool {
+    Pool { grid: Grid::DEFAULT, ..Pool::default() }
 }
 
 /// A pool whose one fee on the input is the trade fee: the creator's is on the output.
 fn trade(vaults: [u64; 2], rate: u64) -> Pool {
-    Pool { vaults, supply: 100, fee_model: 2, rates: rated(rate, 0, 0, 0, 0), ..Pool::default() }
+    Pool { vaults, supply: 100, fee_model: 2, rates: rated(rate, 0, 0, 0, 0), ..usual() }
 }
 
 /// A pool whose one fee is the creator's, on the output.
@@ -187,7 +193,7 @@ fn free(vaults: [u64; 2]) -> Pool {
 }
 
 fn opening(amounts: [u64; 2], model: u64, enabled: u64, rates: [u64; 5]) -> Case {
-    alone(1, &[&amounts[..], &[model, enabled, 0], &rates, &[0; 4]].concat())
+    alone(1, &[&amounts[..], &[model, enabled, 0], &rates, &[0; 4], &Grid::DEFAULT.words()].concat())
 }
 
 fn openings() -> Vec<Bound> {
@@ -489,11 +495,17 @@ fn at_ring(
     nets: [u64; 2],
 ) -> [Bound; 2] {
     let pool = Pool { head, ..trade(nets, 1) };
-    let words = [&[u64::from(head.used), head.index, head.mark][..], &entry, &[clock], &nets].concat();
+    in_swap_and_alone(says, number, pool, entry, clock)
+}
+
+/// The ring of this pool in a swap and alone; no fee is booked, so that the vaults are the nets.
+fn in_swap_and_alone(says: &str, number: u64, pool: Pool, entry: Entry, clock: u64) -> [Bound; 2] {
+    let Pool { head, grid, vaults: nets, .. } = pool;
+    let lent = [&[u64::from(head.used), head.index, head.mark][..], &grid.words(), &entry].concat();
     // Of 3 in the fee takes 1, and 2 are enough for the swap itself to pass.
     [
         bound(says, number, at_entry(pool, entry, 2, &[0, 3, 0, clock])),
-        bound(says, number, Case { kind: 36, columns: words }),
+        bound(says, number, Case { kind: 36, columns: [&lent[..], &[clock], &nets].concat() }),
     ]
 }
 
@@ -654,7 +666,7 @@ fn settlements() -> Vec<Bound> {
         creator: [creator, 4],
         ..day()
     };
-    let by_hand = Pool { vaults: [1, 0], protocol: [0, MOST], creator: [1, 1], ..Pool::default() };
+    let by_hand = Pool { vaults: [1, 0], protocol: [0, MOST], creator: [1, 1], ..usual() };
     let mixed = Pool { vaults: [0, 10], protocol: [0, MOST], creator: [3, 2], ..day() };
     let settle = |pool, share| on(pool, 6, &[share]);
     vec![

@@ -2,7 +2,7 @@
 //! Part G has what the Rust no longer decides, where it is asked nevertheless.
 
 use crate::left::LeftCounts;
-use record::{Case, Left, State, POOL_COLUMNS, POOL_LENGTH};
+use record::{Case, Grid, Left, State, POOL_COLUMNS};
 use runner::{Cause, Outcome};
 
 struct Row {
@@ -13,8 +13,9 @@ struct Row {
     port: u64,
     /// None where the Rust decides.
     left: Option<Left>,
-    /// Some columns of the port's answer.
+    /// Some columns of the port's answer, and of the Rust's.
     shows: &'static [(&'static str, u64)],
+    rust_shows: &'static [(&'static str, u64)],
 }
 
 const MOST: u64 = u64::MAX;
@@ -59,6 +60,11 @@ fn rows() -> Vec<Row> {
         charged_liquidity(),
         charges(),
         locked(),
+        refused_grids(),
+        spacings(),
+        lengths(),
+        rings_alone(),
+        opened_grids(),
     ]
     .into_iter()
     .flatten()
@@ -66,12 +72,12 @@ fn rows() -> Vec<Row> {
 }
 
 fn row(row: &'static str, case: Case, rust: &'static str, port: u64) -> Row {
-    Row { row, case, rust, port, left: None, shows: &[] }
+    Row { row, case, rust, port, left: None, shows: &[], rust_shows: &[] }
 }
 
-/// A call on a pool of zeros but for these columns.
+/// A call on a pool of zeros but for spacing 15, length 100 and these columns.
 fn on(columns: &[(&str, u64)], kind: u64, arguments: &[u64]) -> Case {
-    let mut words = [0; POOL_LENGTH];
+    let mut words = record::Pool { grid: Grid::DEFAULT, ..record::Pool::default() }.words();
     for (name, value) in columns {
         let at = POOL_COLUMNS.iter().position(|column| column == name).expect("the pool has this column");
         words[at] = *value;
@@ -90,8 +96,12 @@ fn function(kind: u64, columns: &[u64]) -> Case {
 }
 
 /// At fee model and rates 0, with these points of token 0.
-fn opening([amount_0, amount_1]: [u64; 2], points: u64) -> Case {
-    function(1, &[amount_0, amount_1, 0, 0, 0, 0, 0, 0, 0, 0, points, 0, 0, 0])
+fn opening(amounts: [u64; 2], points: u64) -> Case {
+    opening_at(amounts, points, Grid::DEFAULT)
+}
+
+fn opening_at([amount_0, amount_1]: [u64; 2], points: u64, Grid { spacing, length }: Grid) -> Case {
+    function(1, &[amount_0, amount_1, 0, 0, 0, 0, 0, 0, 0, 0, points, 0, 0, 0, spacing, length])
 }
 
 fn limits() -> Vec<Row> {
@@ -210,7 +220,7 @@ fn ring() -> Vec<Row> {
         row("C13", on(&past_its_end(0), 2, swap), "panics at oracle.rs:88 after booking", 11),
         row("C13", on(&past_its_end(1), 2, swap), "panics at oracle.rs:94 after booking", 11),
         row("A8", on(&counters, 6, &[1_000_000]), "8 after booking", 8),
-        row("A9", function(30, &[1, 0, 0, 1, 0, 0, 0, 0, 3, HALF, 0, 0, 0]), "8 after booking", 8),
+        row("A9", function(30, &[1, 0, 0, 15, 100, 1, 0, 0, 0, 0, 3, HALF, 0, 0, 0]), "8 after booking", 8),
     ]
 }
 
@@ -389,6 +399,88 @@ fn locked() -> Vec<Row> {
     rows
 }
 
+/// Nets 1 and 2 at trade rate 1, where 2 in give 1, with these columns of the ring, 02 (f).
+fn at_ring(columns: &[(&str, u64)], clock: u64) -> Case {
+    on(&[&[("vault 0", 1), ("vault 1", 2), ("trade rate", 1)], columns].concat(), 2, &[0, 2, 0, clock])
+}
+
+/// The same with a ring that is used.
+fn at_used_ring(columns: &[(&str, u64)], clock: u64) -> Case {
+    at_ring(&[&[("ring used", 1)], columns].concat(), clock)
+}
+
+/// A length above 100 and an index at or past the length, 02 (f): the Rust looks at its hundred entries.
+fn refused_grids() -> Vec<Row> {
+    let index_2 = [("length", 2), ("ring index", 2)];
+    let steep = [("vault 0", 1), ("vault 1", 1 << 33), ("trade rate", 1), ("ring used", 1), ("length", 101)];
+    let by_output = [("vault 0", 1), ("vault 1", 3), ("trade rate", 1), ("length", 2), ("ring index", 2)];
+    let rows = vec![
+        row("G40", at_ring(&index_2, 0), "accepts", 11).shows(&[("vault 0", 1), ("ring used", 0)]),
+        row("G41", at_used_ring(&index_2, 0), "accepts", 11).shows(&[("vault 0", 1)]),
+        row("G42", at_ring(&[("length", 101)], 0), "accepts", 11).shows(&[("ring used", 0)]),
+        row("G43", at_ring(&[("length", 0)], 0), "accepts", 11).shows(&[("ring used", 0)]),
+        row("G44", on(&steep, 2, &[0, 2, 0, HALF]), "8 after booking", 11).shows(&[("vault 0", 1)]),
+        row("G45", on(&by_output, 3, &[0, 1, MOST, 0]), "accepts", 11).shows(&[("vault 0", 1)]),
+    ];
+    left_to_model(rows, Left::OtherGrid)
+}
+
+const MOVED_ON: [(&str, u64); 2] = [("ring index", 1), ("entry clock", 1)];
+const MOVED_ON_AT_15: [(&str, u64); 2] = [("ring index", 1), ("entry clock", 15)];
+const OVERWRITTEN: [(&str, u64); 2] = [("ring index", 0), ("entry clock", 0)];
+
+/// Another spacing, 02 (f): the Rust's is 15.
+fn spacings() -> Vec<Row> {
+    let at_spacing = |spacing, clock| at_used_ring(&[("spacing", spacing)], clock);
+    let rows = vec![
+        row("G46", at_spacing(1, 1), "accepts", 0).shows(&MOVED_ON).rust_shows(&OVERWRITTEN),
+        row("G47", at_spacing(0, 1), "accepts", 0).shows(&MOVED_ON).rust_shows(&OVERWRITTEN),
+        row("G48", at_spacing(16, 15), "accepts", 0).shows(&OVERWRITTEN).rust_shows(&MOVED_ON_AT_15),
+    ];
+    left_to_model(rows, Left::OtherGrid)
+}
+
+const BEGUN_ANEW: [(&str, u64); 2] = [("ring index", 0), ("entry clock", 15)];
+const AT_INDEX_2: [(&str, u64); 2] = [("ring index", 2), ("entry clock", 15)];
+
+/// Another length, 02 (f): the Rust's is 100.
+fn lengths() -> Vec<Row> {
+    let length_2 = [("length", 2), ("ring index", 1)];
+    let rows = vec![
+        row("G49", at_used_ring(&length_2, 15), "accepts", 0).shows(&BEGUN_ANEW).rust_shows(&AT_INDEX_2),
+        row("G50", at_used_ring(&[("length", 1)], 15), "accepts", 0)
+            .shows(&BEGUN_ANEW)
+            .rust_shows(&MOVED_ON_AT_15),
+    ];
+    left_to_model(rows, Left::OtherGrid)
+}
+
+/// The ring alone, 02 (f): unused at index 2 of length 2, and used at spacing 1.
+fn rings_alone() -> Vec<Row> {
+    let unused = [0, 2, 0, 15, 2, 0, 0, 0, 0, 0, 0];
+    let used = [1, 0, 0, 1, 100, 0, 0, 0, 0, 0, 1];
+    let mut rows = vec![];
+    // At two prices, and at those of two nets.
+    for (kind, behind) in [(30, &[0, 0, 0, 0][..]), (36, &[1, 1])] {
+        let alone = |ring: [u64; 11]| function(kind, &[&ring[..], behind].concat());
+        rows.push(row("G51", alone(unused), "accepts", 11));
+        rows.push(row("G52", alone(used), "accepts", 0).shows(&MOVED_ON).rust_shows(&OVERWRITTEN));
+    }
+    left_to_model(rows, Left::OtherGrid)
+}
+
+/// Spacing and length of an opening, which the Rust has not.
+fn opened_grids() -> Vec<Row> {
+    let opening = |spacing, length| opening_at([101, 101], 0, Grid { spacing, length });
+    vec![
+        row("G53", opening(1, 2), "has none", 0).shows(&[("spacing", 1), ("length", 2)]),
+        row("G54", opening(0, 100), "has none", 3).shows(&[("spacing", 0), ("length", 0)]),
+        row("G54", opening(3601, 100), "has none", 3),
+        row("G55", opening(15, 1), "has none", 3).shows(&[("spacing", 0), ("length", 0)]),
+        row("G55", opening(15, 101), "has none", 3),
+    ]
+}
+
 /// The rows of part G, with the reason why they are there.
 fn left_to_model(rows: Vec<Row>, left: Left) -> Vec<Row> {
     rows.into_iter().map(|row| Row { left: Some(left), ..row }).collect()
@@ -410,11 +502,21 @@ impl Row {
         Row { shows, ..self }
     }
 
+    fn rust_shows(self, rust_shows: &'static [(&'static str, u64)]) -> Row {
+        Row { rust_shows, ..self }
+    }
+
     fn holds(&self) -> bool {
         let case = &self.case;
-        let (rust, port) = (rust_says(&runner::answer(case)), model::answer(case));
+        let outcome = runner::answer(case);
+        let (rust, port) = (rust_says(&outcome), model::answer(case));
         let number = port.number;
-        let answered = rust == self.rust && number == self.port && case.shows(&port, self.shows);
+        let rust_shown = match &outcome {
+            Outcome::Answered { answer, .. } => case.shows(answer, self.rust_shows),
+            _ => self.rust_shows.is_empty(),
+        };
+        let rust_right = rust == self.rust && rust_shown;
+        let answered = rust_right && number == self.port && case.shows(&port, self.shows);
         let right = answered && case.left_to_model() == self.left;
         let mark = if right { "ok" } else { "FAIL" };
         println!("{:4} {mark}: {}\n     the Rust: {rust}; the rules: {number}", self.row, case.line());

@@ -1,6 +1,6 @@
 //! One call a line, answered by the original.
 
-use record::{call_answer, Call, Case, State};
+use record::{call_answer, Call, Case, Grid, State};
 use runner::{Cause, Change, Outcome, Run};
 use std::io::{self, BufRead, BufWriter, Write};
 
@@ -69,6 +69,9 @@ fn remarks(before: &State, call: &Call, run: &Run) -> String {
     }
     if before.pool.bears_charges() {
         remarks.push("its tokens bear no charges".into());
+    }
+    if swap && before.pool.grid != Grid::DEFAULT {
+        remarks.push("its spacing is 15 and its length 100".into());
     }
     if run.number != 0 {
         remarks.push(booked(&run.booked));

@@ -1,9 +1,9 @@
-//! Document 01's worked example and its edges, with document 02 (a), (b), (c) and (e), answered by both
+//! Document 01's worked example and its edges, with document 02 (a), (b), (c), (e) and (f), answered by both
 //! sides. Openings are added by document 01, so there the original has no answer.
 
 use crate::left::LeftCounts;
 use crate::verdict::{verdict, Side};
-use record::{Answer, Call, Case, State};
+use record::{Answer, Call, Case, Grid, State};
 use runner::Outcome;
 
 /// What the rules say: a number, and some columns of the answer.
@@ -53,18 +53,30 @@ fn edges() -> Vec<Edge> {
         openings(),
         rate_limits(),
         ring(),
+        grids(),
+        spacings(),
+        short_ring(),
+        grids_by_hand(),
     ];
     named.into_iter().flatten().collect()
 }
 
 fn opening(amounts: [u64; 2], model: u64, enabled: u64, rates: [u64; 5]) -> Case {
-    Case { kind: 1, columns: [&amounts[..], &[model, enabled, 0], &rates, &[0; 4]].concat() }
+    let terms = [&amounts[..], &[model, enabled, 0], &rates].concat();
+    Case { kind: 1, columns: [&terms[..], &[0; 4], &Grid::DEFAULT.words()].concat() }
 }
 
 /// The worked opening with these points and maximums.
 fn charged_opening(charges: [[u64; 2]; 2]) -> Case {
     let mut case = opening([1_000_000, 4_000_000], 0, 0, RATES);
-    case.columns[10..].copy_from_slice(charges.as_flattened());
+    case.columns[10..14].copy_from_slice(charges.as_flattened());
+    case
+}
+
+/// The worked opening with this spacing and length.
+fn opening_at(spacing: u64, length: u64) -> Case {
+    let mut case = opening([1_000_000, 4_000_000], 0, 0, RATES);
+    case.columns[14..].copy_from_slice(&[spacing, length]);
     case
 }
 
@@ -311,14 +323,30 @@ fn rate_limits() -> Vec<Edge> {
     ]
 }
 
+/// Price 0 after the worked swap.
+const PRICE_0: u64 = 3_960_495 * (1 << 32) / 1_009_996;
+
+/// A swap of 10,000 tokens 0 at this clock.
+fn swap_at(state: &State, clock: u64) -> Case {
+    Case::of_call(state, 2, &[0, 10_000, 1, clock])
+}
+
+/// The state after such swaps, each accepted.
+fn swapped_at(state: &State, clocks: &[u64]) -> State {
+    let next = |state: State, clock: &u64| {
+        let after = model::run(&state, &swap_at(&state, *clock).call().expect("a swap is a call"));
+        assert!(after.number == 0, "the swaps before an edge are accepted");
+        after.state
+    };
+    clocks.iter().fold(state.clone(), next)
+}
+
 /// After clock 100, a swap at 114 overwrites, at 115 advances.
 fn ring() -> Vec<Edge> {
     let pool = opened(0, 0, RATES);
-    let first = Call::from_words(2, &[0, 10_000, 0, 100]).expect("a swap takes four words");
-    let used = model::run(&pool, &first).state;
-    let swap = |clock| Case::of_call(&used, 2, &[0, 10_000, 1, clock]);
+    let used = swapped_at(&pool, &[100]);
+    let swap = |clock| swap_at(&used, clock);
     let first_case = Case::of_call(&pool, 2, &[0, 10_000, 0, 100]);
-    let price_0 = 3_960_495 * (1 << 32) / 1_009_996;
     vec![
         edge(
             "first use writes the clock 100",
@@ -330,13 +358,111 @@ fn ring() -> Vec<Edge> {
             "after clock 100, a swap at 114 overwrites",
             swap(114),
             0,
-            &[("ring index", 0), ("ring mark", 114), ("entry clock", 100), ("sum 0 low", price_0 * 14)],
+            &[("ring index", 0), ("ring mark", 114), ("entry clock", 100), ("sum 0 low", PRICE_0 * 14)],
         ),
         edge(
             "after clock 100, a swap at 115 advances",
             swap(115),
             0,
-            &[("ring index", 1), ("ring mark", 115), ("entry clock", 115), ("sum 0 low", price_0 * 15)],
+            &[("ring index", 1), ("ring mark", 115), ("entry clock", 115), ("sum 0 low", PRICE_0 * 15)],
+        ),
+    ]
+}
+
+/// Openings at and past the bounds of spacing and length.
+fn grids() -> Vec<Edge> {
+    let with = |model, amount, spacing, length| {
+        let mut case = opening_at(spacing, length);
+        (case.columns[0], case.columns[1], case.columns[2]) = (amount, amount, model);
+        case
+    };
+    let accepted = |says, spacing, length| {
+        edge(says, opening_at(spacing, length), 0, &[("spacing", spacing), ("length", length)])
+    };
+    let refused = |says, spacing, length| {
+        edge(says, opening_at(spacing, length), 3, &[("spacing", 0), ("length", 0), ("vault 0", 0)])
+    };
+    vec![
+        accepted("opening with spacing 15 and length 100", 15, 100),
+        accepted("opening with spacing 1 and length 2", 1, 2),
+        accepted("opening with spacing 3,600 and length 100", 3600, 100),
+        refused("opening with spacing 0 is 3", 0, 100),
+        refused("opening with spacing 3,601 is 3", 3601, 100),
+        refused("opening with length 1 is 3", 15, 1),
+        refused("opening with length 101 is 3", 15, 101),
+        refused("opening with spacing and length 0 is 3", 0, 0),
+        edge("opening with model 3 and spacing 0 is 9", with(3, 4_000_000, 0, 100), 9, &[]),
+        edge("opening 100 by 100 with length 101 is 3", with(0, 100, 15, 101), 3, &[]),
+        edge("opening 100 by 100 with length 2 is 13", with(0, 100, 15, 2), 13, &[]),
+    ]
+}
+
+/// After clock 100, the last swap that overwrites and the first that advances.
+fn spacings() -> Vec<Edge> {
+    let swap = |spacing, clock| swap_at(&swapped_at(&after(&opening_at(spacing, 100)), &[100]), clock);
+    let later = |says, spacing, clock, index, entry_clock| {
+        let sum = ("sum 0 low", PRICE_0 * (clock - 100));
+        let columns = [("ring index", index), ("ring mark", clock), ("entry clock", entry_clock), sum];
+        edge(says, swap(spacing, clock), 0, &columns)
+    };
+    let overwritten = |says, spacing, clock| later(says, spacing, clock, 0, 100);
+    let advanced = |says, spacing, clock| later(says, spacing, clock, 1, clock);
+    vec![
+        advanced("at spacing 1, a swap at 101 advances", 1, 101),
+        overwritten("at spacing 2, a swap at 101 overwrites", 2, 101),
+        advanced("at spacing 2, a swap at 102 advances", 2, 102),
+        overwritten("at spacing 16, a swap at 115 overwrites", 16, 115),
+        overwritten("at spacing 3,600, a swap at 3,699 overwrites", 3600, 3699),
+        advanced("at spacing 3,600, a swap at 3,700 advances", 3600, 3700),
+    ]
+}
+
+/// At length 2 the third entry is written at index 0, at length 3 at index 2.
+fn short_ring() -> Vec<Edge> {
+    let swap =
+        |length, clocks: &[u64], clock| swap_at(&swapped_at(&after(&opening_at(15, length)), clocks), clock);
+    let at = |index, clock| [("ring index", index), ("entry clock", clock), ("ring mark", clock)];
+    vec![
+        edge("at length 2 the second entry is at index 1", swap(2, &[100], 115), 0, &at(1, 115)),
+        edge("at length 2 the third entry is at index 0", swap(2, &[100, 115], 130), 0, &at(0, 130)),
+        edge("at length 2 the fourth entry is at index 1", swap(2, &[100, 115, 130], 145), 0, &at(1, 145)),
+        edge("at length 3 the third entry is at index 2", swap(3, &[100, 115], 130), 0, &at(2, 130)),
+        edge("at length 3 the fourth entry is at index 0", swap(3, &[100, 115, 130], 145), 0, &at(0, 145)),
+    ]
+}
+
+/// Records that no opening gives: spacing, length and index as they are, in a ring used at clock 100.
+fn grids_by_hand() -> Vec<Edge> {
+    let hand = |spacing, length, index, clock| {
+        let mut state = swapped_at(&opened(0, 0, RATES), &[100]);
+        (state.pool.grid, state.pool.head.index) = (Grid { spacing, length }, index);
+        state.ring.swap(0, index as usize);
+        swap_at(&state, clock)
+    };
+    let unused = |length, index| {
+        let mut state = opened(0, 0, RATES);
+        (state.pool.grid.length, state.pool.head.index) = (length, index);
+        swap_at(&state, 100)
+    };
+    let moved = [("ring index", 1), ("entry clock", 101), ("sum 0 low", PRICE_0)];
+    let stays = [("ring index", 0), ("entry clock", 115), ("sum 0 low", PRICE_0 * 15)];
+    let kept = [("ring index", 0), ("entry clock", 100), ("ring mark", 9_999_999)];
+    vec![
+        edge("length 101 is 11", hand(15, 101, 0, 115), 11, &[]),
+        edge("length 0 is 11", hand(15, 0, 0, 115), 11, &[]),
+        edge("index 2 at length 2 is 11", hand(15, 2, 2, 115), 11, &[]),
+        edge("index 99 at length 99 is 11", hand(15, 99, 99, 115), 11, &[]),
+        edge("index 2 at length 2 is 11, though nothing is due", hand(15, 2, 2, 100), 11, &[]),
+        edge("first use at index 2 of length 2 is 11", unused(2, 2), 11, &[]),
+        edge("first use at length 101 is 11", unused(101, 0), 11, &[]),
+        edge("first use at index 1 of length 2", unused(2, 1), 0, &[("ring index", 1), ("entry clock", 100)]),
+        edge("at length 1 the index stays 0", hand(15, 1, 0, 115), 0, &stays),
+        edge("at spacing 0 a swap at 101 advances", hand(0, 100, 0, 101), 0, &moved),
+        edge(
+            "at spacing 2^64 - 1 a swap at 9,999,999 overwrites",
+            hand(u64::MAX, 100, 0, 9_999_999),
+            0,
+            &kept,
         ),
     ]
 }

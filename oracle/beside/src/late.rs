@@ -2,7 +2,7 @@
 //! Each list begins with an opening that document 01 accepts and ends with such a call.
 
 use crate::driver::change;
-use record::{Call, Case, Pool, State, POOL_COLUMNS};
+use record::{Call, Case, Grid, Pool, State, POOL_COLUMNS};
 use runner::{Change, Run};
 
 struct Late {
@@ -101,9 +101,9 @@ pub fn cases() -> Vec<Case> {
 type Calls = Vec<Vec<u64>>;
 
 impl Late {
-    /// With points and maximums of 0.
+    /// With points and maximums of 0, spacing 15 and length 100.
     fn opening_words(&self) -> Vec<u64> {
-        [&self.opening[..], &[0; 4]].concat()
+        [&self.opening[..], &[0; 4], &Grid::DEFAULT.words()].concat()
     }
 
     fn calls(&self) -> Calls {
@@ -123,7 +123,7 @@ impl Late {
     /// The state before the last call, and that call.
     fn before_last(&self, calls: &[Vec<u64>]) -> (State, Vec<u64>) {
         let (last, earlier) = calls.split_last().expect("a list holds a call");
-        let opening = Call::from_words(1, &self.opening_words()).expect("an opening takes fourteen words");
+        let opening = Call::from_words(1, &self.opening_words()).expect("an opening takes sixteen words");
         let mut after = model::run(&model::empty(), &opening);
         for call in earlier {
             assert!(after.number == 0, "{}: every call but the last is accepted", self.name);

@@ -1,15 +1,21 @@
 //! How many cases a run beside the original leaves to the model, and why; whether they are such as
 //! document 02 says.
 
-use record::{Case, Left};
+use crate::verdict::{verdict, Side};
+use record::{Answer, Case, Grid, Left, RingHead, POOL_COLUMNS, RECEIPT_LENGTH};
 use runner::Outcome;
 use std::collections::BTreeMap;
 
 /// Whether the rules give the number that document 02 gives to such cases, where it gives one. By (e)
-/// these are withdrawals that the original accepts, and of that alone it is asked.
-pub fn is_as_told(left: Left, case: &Case, number: u64) -> bool {
-    let told = left.number().is_none_or(|told| told == number);
-    told && (left != Left::LockedLp || original_accepts(case))
+/// these are withdrawals that the original accepts, and of that alone it is asked; by (f) swaps of which
+/// only the ring is no longer its own, and it is asked of the rest.
+pub fn is_as_told(left: Left, case: &Case, document: &Answer) -> bool {
+    let told = left.number().is_none_or(|told| told == document.number);
+    told && match left {
+        Left::LockedLp => original_accepts(case),
+        Left::OtherGrid => only_ring_is_left(case, document),
+        _ => true,
+    }
 }
 
 /// Where it has no such status, fee model or index, it has nothing to refuse either.
@@ -19,6 +25,41 @@ fn original_accepts(case: &Case) -> bool {
         Outcome::Absent(_) => true,
         Outcome::Wide(_) => false,
     }
+}
+
+/// The numbers of the ring's own tests.
+const OF_THE_RING: [u64; 2] = [8, 11];
+
+/// The same swap on an unused ring of spacing 15 and length 100, which accepts whatever comes, is decided
+/// by both sides alike. A refusal there is the case's too; where it is accepted, the case is refused by its
+/// ring, or receipt and pool are the same but for the ring's columns.
+fn only_ring_is_left(case: &Case, document: &Answer) -> bool {
+    let Some(unused) = on_unused_ring(case).as_ref().map(verdict) else {
+        return true;
+    };
+    let as_unused = match (unused.document.number, document.number) {
+        (0, 0) => same_but_for_ring(&unused.document, document),
+        (0, number) => OF_THE_RING.contains(&number),
+        (unused, number) => unused == number,
+    };
+    as_unused && matches!(unused.side, Side::Both | Side::DocumentAlone)
+}
+
+/// The same call on an unused ring of spacing 15 and length 100; none of a function alone.
+pub fn on_unused_ring(case: &Case) -> Option<Case> {
+    case.call()?;
+    let mut state = case.state();
+    (state.pool.head, state.pool.grid) = (RingHead::default(), Grid::DEFAULT);
+    Some(Case::of_call(&state, case.kind, case.arguments()))
+}
+
+fn same_but_for_ring(one: &Answer, other: &Answer) -> bool {
+    let of_ring = |at: usize| {
+        let column = at.checked_sub(RECEIPT_LENGTH).map(|at| POOL_COLUMNS.get(at).unwrap_or(&"ring entry"));
+        column.is_some_and(|column| column.starts_with("ring") || ["spacing", "length"].contains(column))
+    };
+    let mut numbers = one.values.iter().zip(&other.values).enumerate();
+    numbers.all(|(at, (one, other))| one == other || of_ring(at))
 }
 
 #[derive(Default)]

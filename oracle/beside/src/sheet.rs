@@ -2,7 +2,7 @@
 //! output.
 
 use model::calls::rate_limits;
-use record::{Call, Rates, Receipt, State};
+use record::{Call, Grid, Rates, Receipt, State};
 use std::io::{self, Read, Write};
 
 const ROW: usize = 102;
@@ -51,8 +51,11 @@ impl Sheet {
         let Rates { trade, protocol, fund, creator, share } = self.rates;
         let mut words = numbers[..USED[kind as usize]].to_vec();
         match kind {
-            // The sheet's tokens are not charged.
-            1 => words.extend([trade, protocol, fund, creator, share, 0, 0, 0, 0]),
+            // The sheet's tokens are not charged, and its rings have spacing 15 and length 100.
+            1 => {
+                words.extend([trade, protocol, fund, creator, share, 0, 0, 0, 0]);
+                words.extend(Grid::DEFAULT.words());
+            }
             6 => words.push(self.state.pool.rates.share),
             _ => {}
         }

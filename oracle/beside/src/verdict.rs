@@ -33,7 +33,7 @@ pub fn verdict(case: &Case) -> Verdict {
     let document = document(case);
     if let Some(left) = case.left_to_model() {
         let class = format!("{} {}: {left}", case.form().name, document.number);
-        let as_told = is_as_told(left, case, document.number);
+        let as_told = is_as_told(left, case, &document);
         let side = if as_told { Side::Left } else { Side::Unlisted };
         return Verdict { side, class, document, original: None };
     }

@@ -7,7 +7,7 @@ use crate::fees::{calculate_pre_fee_amount, fee_rounded_up, part_rounded_down, s
 use crate::refusal::*;
 use crate::ring;
 use crate::whole::{divided_up, from_halves, whole, Whole, ZERO};
-use record::{entry_at, filled_ring, Answer, Case, Charge, Pool, RingHead};
+use record::{filled_ring, Answer, Case, Charge, Pool, RingAlone, RING_LENT};
 
 type Values = Result<Vec<u64>, u64>;
 
@@ -17,7 +17,7 @@ pub fn answer(case: &Case) -> Answer {
         Ok(values) => Answer { number: 0, values },
         Err(number) => match case.kind {
             // What is lent to these comes back as it was.
-            30 | 36 => Answer { number, values: case.columns[..8].to_vec() },
+            30 | 36 => Answer { number, values: case.columns[..RING_LENT].to_vec() },
             33 => Answer { number, values: case.columns[..6].to_vec() },
             _ => Answer::refused(number, form.values.len()),
         },
@@ -29,7 +29,7 @@ fn values(kind: u64, words: &[u64]) -> Values {
         10..=17 => fee(kind, words),
         18 | 19 => charge(kind, words),
         20..=24 => curve(kind, words),
-        30 => ring_update(words, [from_halves(words[9], words[10]), from_halves(words[11], words[12])]),
+        30 => ring_update(words, [from_halves(words[11], words[12]), from_halves(words[13], words[14])]),
         31 => calls::nets(&vaults(words)).map(Vec::from),
         32 => prices(words),
         33 => booking(words),
@@ -40,8 +40,8 @@ fn values(kind: u64, words: &[u64]) -> Values {
         }
         35 => refuse_if(words.contains(&0), EMPTY_SUPPLY).map(|()| vec![]),
         36 => {
-            refuse_if(words[9..].contains(&0), PANIC)?;
-            ring_update(words, ring::prices([whole(words[9]), whole(words[10])]))
+            refuse_if(words[11..].contains(&0), PANIC)?;
+            ring_update(words, ring::prices([whole(words[11]), whole(words[12])]))
         }
         _ => unreachable!("every kind has its form"),
     }
@@ -114,13 +114,11 @@ fn ceil_div(words: &[u64]) -> Values {
 }
 
 fn ring_update(words: &[u64], prices: [Whole; 2]) -> Values {
-    let mut head = RingHead { used: words[0] == 1, index: words[1], mark: words[2] };
-    let entry = words[3..8].try_into().expect("an entry has five words");
-    let mut ring = filled_ring(head.index, entry);
-    ring::update(&mut head, &mut ring, words[8], prices)?;
-    let mut values = vec![head.used.into(), head.index, head.mark];
-    values.extend(entry_at(&ring, head.index));
-    Ok(values)
+    let alone = RingAlone::from_words(words).expect("the form begins with the ring");
+    let mut head = alone.head;
+    let mut ring = filled_ring(head.index, alone.entry);
+    ring::update(&mut head, alone.grid, &mut ring, alone.clock, prices)?;
+    Ok(alone.words_after(head, &ring))
 }
 
 fn prices(words: &[u64]) -> Values {

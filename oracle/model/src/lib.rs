@@ -1,4 +1,4 @@
-//! The rules, document 01 with document 02 (a) to (e), in whole numbers: every call and every
+//! The rules, document 01 with document 02 (a) to (f), in whole numbers: every call and every
 //! function alone, written from their text and in its order. It knows nothing of the original.
 
 pub mod calls;

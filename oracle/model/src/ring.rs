@@ -1,10 +1,11 @@
-//! Document 01, 'oracle.rs'.
+//! Document 01, 'oracle.rs', with document 02 (f): spacing and length are the pool's. Entries at or past
+//! the length are neither read nor written.
 
 use crate::refusal::{refuse_if, MATH_OVERFLOW, PANIC};
 use crate::whole::{from_halves, two_to, whole, Whole};
-use record::{Ring, RingHead, RING_ENTRIES};
+use record::{Grid, Ring, RingHead};
 
-const NEW_ENTRY_AFTER: u64 = 15;
+const MOST_ENTRIES: u64 = 100;
 
 /// Price 0 is net 1 times 2^32 over net 0, rounded down; price 1 is its mirror. No net is 0.
 pub fn prices(nets: [Whole; 2]) -> [Whole; 2] {
@@ -12,8 +13,14 @@ pub fn prices(nets: [Whole; 2]) -> [Whole; 2] {
 }
 
 /// Counts the prices for the seconds since the mark.
-pub fn update(head: &mut RingHead, ring: &mut Ring, clock: u64, prices: [Whole; 2]) -> Result<(), u64> {
-    refuse_if(head.index >= RING_ENTRIES as u64, PANIC)?;
+pub fn update(
+    head: &mut RingHead,
+    grid: Grid,
+    ring: &mut Ring,
+    clock: u64,
+    prices: [Whole; 2],
+) -> Result<(), u64> {
+    refuse_if(grid.length > MOST_ENTRIES || head.index >= grid.length, PANIC)?;
     let newest = head.index as usize;
     if !head.used {
         ring[newest] = [clock, 0, 0, 0, 0];
@@ -28,10 +35,10 @@ pub fn update(head: &mut RingHead, ring: &mut Ring, clock: u64, prices: [Whole; 
         return Ok(());
     }
     let sums = sums_after(&ring[newest], prices, clock - head.mark)?;
-    if clock - entry_clock < NEW_ENTRY_AFTER {
+    if clock - entry_clock < grid.spacing {
         ring[newest] = with_sums(entry_clock, sums);
     } else {
-        head.index = (head.index + 1) % RING_ENTRIES as u64;
+        head.index = if head.index == grid.length - 1 { 0 } else { head.index + 1 };
         ring[head.index as usize] = with_sums(clock, sums);
     }
     head.mark = clock;

@@ -1,6 +1,6 @@
 //! The seven calls and their receipt.
 
-use crate::pool::{Charge, Rates};
+use crate::pool::{Charge, Grid, Rates};
 
 /// The amounts are those that arrived.
 #[derive(Clone, Copy, Debug, PartialEq, Eq)]
@@ -11,7 +11,10 @@ pub struct Opening {
     pub open_time: u64,
     pub rates: Rates,
     pub charges: [Charge; 2],
+    pub grid: Grid,
 }
+
+pub const OPENING_LENGTH: usize = 16;
 
 /// By input the amount is what is sent and the limit the least that is received; by output the amount
 /// is what is received and the limit the most that is sent.
@@ -35,12 +38,15 @@ pub enum Call {
 }
 
 impl Opening {
-    /// None where there are not fourteen.
+    /// None where there are not sixteen.
     fn from_words(words: &[u64]) -> Option<Opening> {
         let [a0, a1, fee_model, enabled, open_time, ref rest @ ..] = *words else {
             return None;
         };
         let [trade, protocol, fund, creator, share, ref rest @ ..] = *rest else {
+            return None;
+        };
+        let [points_0, maximum_0, points_1, maximum_1, ref rest @ ..] = *rest else {
             return None;
         };
         Some(Opening {
@@ -49,17 +55,32 @@ impl Opening {
             enabled,
             open_time,
             rates: Rates { trade, protocol, fund, creator, share },
-            charges: Charge::from_words(rest.try_into().ok()?),
+            charges: Charge::from_words([points_0, maximum_0, points_1, maximum_1]),
+            grid: Grid::from_words(rest.try_into().ok()?),
         })
     }
 
-    pub fn words(&self) -> [u64; 14] {
-        let Opening { amounts: [a0, a1], fee_model, enabled, open_time, rates, charges } = *self;
+    pub fn words(&self) -> [u64; OPENING_LENGTH] {
+        let Opening { amounts: [a0, a1], fee_model, enabled, open_time, rates, charges, grid } = *self;
         let Rates { trade, protocol, fund, creator, share } = rates;
         let [points_0, maximum_0, points_1, maximum_1] = Charge::words(charges);
         [
-            a0, a1, fee_model, enabled, open_time, trade, protocol, fund, creator, share, points_0,
-            maximum_0, points_1, maximum_1,
+            a0,
+            a1,
+            fee_model,
+            enabled,
+            open_time,
+            trade,
+            protocol,
+            fund,
+            creator,
+            share,
+            points_0,
+            maximum_0,
+            points_1,
+            maximum_1,
+            grid.spacing,
+            grid.length,
         ]
     }
 }

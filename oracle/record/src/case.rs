@@ -2,8 +2,8 @@
 
 use crate::call::{Call, Receipt, RECEIPT_COLUMNS, RECEIPT_LENGTH};
 use crate::form::{form, Form, On};
-use crate::pool::{Pool, State, POOL_COLUMNS, POOL_LENGTH};
-use crate::ring::{entry_at, filled_ring, ENTRY_COLUMNS, ENTRY_LENGTH, RING_ENTRIES};
+use crate::pool::{Grid, Pool, State, POOL_COLUMNS, POOL_LENGTH};
+use crate::ring::{entry_at, filled_ring, RingAlone, ENTRY_COLUMNS, ENTRY_LENGTH, RING_ENTRIES, RING_LENT};
 use std::ops::Range;
 
 /// Where a swap's case has the ring's newest entry: behind the pool.
@@ -73,6 +73,16 @@ impl Case {
         }
     }
 
+    /// Spacing and length of its pool, of what it opens or of the ring alone; none where it has no ring.
+    pub fn grid(&self) -> Option<Grid> {
+        match (self.kind, self.call()) {
+            (_, Some(Call::Opening(opening))) => Some(opening.grid),
+            (_, Some(_)) => Some(self.pool().grid),
+            (30 | 36, None) => RingAlone::from_words(&self.columns).map(|ring| ring.grid),
+            _ => None,
+        }
+    }
+
     pub fn call(&self) -> Option<Call> {
         Call::from_words(self.kind, self.arguments())
     }
@@ -124,7 +134,7 @@ impl Case {
     fn entry_is_in_ring(&self) -> bool {
         let (index, entry) = match self.kind {
             2 | 3 => (self.columns[RING_INDEX], &self.columns[ENTRY]),
-            30 | 36 => (self.columns[1], &self.columns[3..8]),
+            30 | 36 => (self.columns[1], &self.columns[5..RING_LENT]),
             _ => return true,
         };
         index < RING_ENTRIES as u64 || entry.iter().all(|word| *word == 0)

@@ -3,6 +3,7 @@
 
 use crate::call::Call;
 use crate::case::Case;
+use crate::pool::Grid;
 use std::fmt;
 
 /// Why a case is left to the model.
@@ -19,6 +20,8 @@ pub enum Left {
     /// 02 (e): a withdrawal that leaves fewer than 100 LP and that the original accepts, or would, had it such
     /// a status, fee model or index.
     LockedLp,
+    /// 02 (f): a swap, or the ring alone, at another spacing than 15 or another length than 100.
+    OtherGrid,
 }
 
 /// The least that a withdrawal leaves, by 02 (e).
@@ -31,6 +34,7 @@ impl fmt::Display for Left {
             Left::AmountOnClosedPool => "refused amount on a closed pool, 02 (b)",
             Left::Charge => "points above 0, 02 (c)",
             Left::LockedLp => "fewer than 100 LP left, 02 (e)",
+            Left::OtherGrid => "spacing not 15 or length not 100, 02 (f)",
         })
     }
 }
@@ -39,7 +43,7 @@ impl Left {
     /// The number that document 02 gives to all these cases, where it gives one.
     pub fn number(self) -> Option<u64> {
         match self {
-            Left::RateSumOfZero | Left::Charge => None,
+            Left::RateSumOfZero | Left::Charge | Left::OtherGrid => None,
             Left::AmountOnClosedPool => Some(1),
             Left::LockedLp => Some(15),
         }
@@ -59,6 +63,7 @@ impl Case {
             // An opening has no original beside it, whatever it charges.
             (Left::Charge, self.kind != 1 && self.bears_charges()),
             (Left::LockedLp, self.leaves_less_than_locked()),
+            (Left::OtherGrid, self.is_at_other_grid()),
         ];
         reasons.into_iter().find(|(_, holds)| *holds).map(|(left, _)| left)
     }
@@ -88,6 +93,11 @@ impl Case {
             Some(Call::Withdrawal { lp, owned, .. }) => pool.status_bit(1) && (lp == 0 || lp > owned),
             _ => false,
         }
+    }
+
+    /// No other call looks at the ring, and an opening has no original beside it, whatever its grid.
+    fn is_at_other_grid(&self) -> bool {
+        matches!(self.kind, 2 | 3 | 30 | 36) && self.grid() != Some(Grid::DEFAULT)
     }
 
     /// Besides what is left, each test of the original passes: it is open, the owner has the LP, the

@@ -1,6 +1,6 @@
 //! The pool's record, in the order in which every line gives it.
 
-use crate::ring::Ring;
+use crate::ring::{Ring, ENTRY_LENGTH, RING_ENTRIES};
 
 #[derive(Clone, Copy, Debug, Default, PartialEq, Eq)]
 pub struct Rates {
@@ -37,6 +37,33 @@ impl Charge {
     }
 }
 
+/// How the price ring is laid out: seconds from one entry to the next, and how many entries are used.
+#[derive(Clone, Copy, Debug, Default, PartialEq, Eq)]
+pub struct Grid {
+    pub spacing: u64,
+    pub length: u64,
+}
+
+impl Grid {
+    /// The day sheet's, and the only one that the original has.
+    pub const DEFAULT: Grid = Grid { spacing: 15, length: 100 };
+
+    /// In the order of every line.
+    pub const fn words(self) -> [u64; 2] {
+        [self.spacing, self.length]
+    }
+
+    pub fn from_words([spacing, length]: [u64; 2]) -> Grid {
+        Grid { spacing, length }
+    }
+
+    /// How many of the ring's numbers stand before the length: at most those of all hundred entries.
+    pub fn used_words(self) -> usize {
+        let entries = usize::try_from(self.length).unwrap_or(RING_ENTRIES);
+        ENTRY_LENGTH * entries.min(RING_ENTRIES)
+    }
+}
+
 /// The price ring without its entries.
 #[derive(Clone, Copy, Debug, Default, PartialEq, Eq)]
 pub struct RingHead {
@@ -59,6 +86,7 @@ pub struct Pool {
     pub rates: Rates,
     pub head: RingHead,
     pub charges: [Charge; 2],
+    pub grid: Grid,
 }
 
 #[derive(Clone, Debug, PartialEq, Eq)]
@@ -67,7 +95,7 @@ pub struct State {
     pub ring: Ring,
 }
 
-pub const POOL_LENGTH: usize = 25;
+pub const POOL_LENGTH: usize = 27;
 
 pub const POOL_COLUMNS: [&str; POOL_LENGTH] = [
     "vault 0",
@@ -95,6 +123,8 @@ pub const POOL_COLUMNS: [&str; POOL_LENGTH] = [
     "maximum 0",
     "points 1",
     "maximum 1",
+    "spacing",
+    "length",
 ];
 
 impl Pool {
@@ -127,6 +157,8 @@ impl Pool {
             maximum_0,
             points_1,
             maximum_1,
+            self.grid.spacing,
+            self.grid.length,
         ]
     }
 
@@ -157,6 +189,9 @@ impl Pool {
         let [trade, protocol, fund, creator, share, used, index, mark, ref rest @ ..] = *rest else {
             return None;
         };
+        let [points_0, maximum_0, points_1, maximum_1, ref rest @ ..] = *rest else {
+            return None;
+        };
         Some(Pool {
             vaults: [v0, v1],
             protocol: [p0, p1],
@@ -169,7 +204,8 @@ impl Pool {
             enabled: yes_or_no(enabled)?,
             rates: Rates { trade, protocol, fund, creator, share },
             head: RingHead { used: yes_or_no(used)?, index, mark },
-            charges: Charge::from_words(rest.try_into().ok()?),
+            charges: Charge::from_words([points_0, maximum_0, points_1, maximum_1]),
+            grid: Grid::from_words(rest.try_into().ok()?),
         })
     }
 }

@@ -1,4 +1,6 @@
-//! The price ring's hundred entries.
+//! The price ring's hundred entries, of which a pool uses those before its length, and the ring alone.
+
+use crate::pool::{Grid, RingHead};
 
 pub const RING_ENTRIES: usize = 100;
 
@@ -30,6 +32,44 @@ pub fn entry_at(ring: &Ring, index: u64) -> Entry {
 pub fn only_newest_written(before: &Ring, after: &Ring, index: u64) -> bool {
     let newest = place(index);
     (0..RING_ENTRIES).all(|i| Some(i) == newest || before[i] == after[i])
+}
+
+/// What a case of the ring alone begins with: head, grid and the entry at the index are lent, the clock
+/// is not.
+pub struct RingAlone {
+    pub head: RingHead,
+    pub grid: Grid,
+    pub entry: Entry,
+    pub clock: u64,
+}
+
+/// How many words of such a case are lent; behind them is the clock, then prices or nets.
+pub const RING_LENT: usize = 10;
+
+impl RingAlone {
+    /// None where words are missing.
+    pub fn from_words(words: &[u64]) -> Option<RingAlone> {
+        let [used, index, mark, spacing, length, ref rest @ ..] = *words else {
+            return None;
+        };
+        let [clock, sum_0_high, sum_0_low, sum_1_high, sum_1_low, now, ..] = *rest else {
+            return None;
+        };
+        Some(RingAlone {
+            head: RingHead { used: used == 1, index, mark },
+            grid: Grid { spacing, length },
+            entry: [clock, sum_0_high, sum_0_low, sum_1_high, sum_1_low],
+            clock: now,
+        })
+    }
+
+    /// The lent words after an update, which leaves the grid.
+    pub fn words_after(&self, head: RingHead, ring: &Ring) -> Vec<u64> {
+        let mut words = vec![head.used.into(), head.index, head.mark];
+        words.extend(self.grid.words());
+        words.extend(entry_at(ring, head.index));
+        words
+    }
 }
 
 fn place(index: u64) -> Option<usize> {

@@ -6,7 +6,7 @@ use crate::{Cause, Change, Outcome};
 use original::curve::{ConstantProductCurve, CurveCalculator, Fees, RoundDirection, TradeDirection};
 use original::states::{creator_fee_share::split_creator_fee_shared_amount, PoolState};
 use original::utils::CheckedCeilDiv;
-use record::{filled_ring, only_newest_written, Answer, Case, Pool, RingHead};
+use record::{filled_ring, only_newest_written, Answer, Case, Pool, RingAlone, RING_LENT};
 
 pub fn answer(case: &Case) -> Outcome {
     let words = &case.columns;
@@ -14,8 +14,8 @@ pub fn answer(case: &Case) -> Outcome {
         10..=17 => results(case, caught(|| Ok(fee(case.kind, words))).and_then(|result| result)),
         18 | 19 => Outcome::Absent("a charge: utils/token.rs is stood in for"),
         20..=24 => results(case, caught(|| Ok(curve(case.kind, words))).and_then(|result| result)),
-        30 => ring_update(words, Ok((wide(words[9], words[10]), wide(words[11], words[12])))),
-        36 => ring_update(words, caught(|| counters([0; 6], 0).token_price_x32(words[9], words[10]))),
+        30 => ring_update(words, Ok((wide(words[11], words[12]), wide(words[13], words[14])))),
+        36 => ring_update(words, caught(|| counters([0; 6], 0).token_price_x32(words[11], words[12]))),
         31 => results(case, nets(words)),
         32 => results(case, prices(words)),
         33 => booking(words),
@@ -105,22 +105,22 @@ fn division(lp: u128, net: u128, supply: u128) -> Results {
     Ok(vec![high, low, remainder])
 }
 
-/// The ring at two prices, which are given or which the original makes of two nets.
+/// The ring at two prices, which are given or which the original makes of two nets. Its spacing is 15 and
+/// its length 100, whatever the words say.
 fn ring_update(words: &[u64], prices: Result<(u128, u128), Failure>) -> Outcome {
-    let before = RingHead { used: words[0] == 1, index: words[1], mark: words[2] };
-    let ring = filled_ring(before.index, words[3..8].try_into().expect("an entry has five words"));
-    let mut state = match observation_state(&before, &ring) {
+    let alone = RingAlone::from_words(words).expect("the form begins with the ring");
+    let ring = filled_ring(alone.head.index, alone.entry);
+    let mut state = match observation_state(&alone.head, &ring) {
         Ok(state) => state,
         Err(reason) => return Outcome::Absent(reason),
     };
-    let result = prices.and_then(|(price_0, price_1)| caught(|| state.update(words[8], price_0, price_1)));
+    let result = prices.and_then(|(price_0, price_1)| caught(|| state.update(alone.clock, price_0, price_1)));
     let after = head(&state);
     let entries = state.observations.map(entry);
     assert!(only_newest_written(&ring, &entries, after.index));
-    let mut values = vec![after.used.into(), after.index, after.mark];
-    values.extend(record::entry_at(&entries, after.index));
-    let columns = &record::form(30).expect("the ring has its form").values[..8];
-    rolled_back(result, columns, &words[..8], values)
+    let values = alone.words_after(after, &entries);
+    let columns = record::form(30).expect("the ring has its form").values;
+    rolled_back(result, columns, &words[..RING_LENT], values)
 }
 
 fn nets(words: &[u64]) -> Results {

@@ -3,7 +3,7 @@
 use Prim.Native.Nat.{ℕ, _*_}
 use mathlib.Core.Path.{_≡_, refl, ap, _∙_}
 use Rattle.root.specs.Root.{root}
-use Rattle.refusal.specs.Tests.{first}
+use Rattle.refusal.specs.Tests.{_then_, first}
 use Rattle.refusal.proofs.Stops.{outcome-stop, outcome-go}
 use Rattle.accounting.specs.declared.Books.{Books}
 use Rattle.charge.specs.declared.Charged.{Charged}
@@ -49,15 +49,15 @@ amounts-receipt-requires c κs = search needs
 opened :
     (o : Opening) (n : ℕ) → n ≡ first (openingTests o) → n ≡ 0
     → (s : ℕ) (b : Books) (x : Charged) (r : Receipt) → s ≡ supplyOf o → b ≡ booksWith (o .amount0) (o .amount1) s → x ≡ nothingCharged → r ≡ amounts kind (o .amount0) (o .amount1) 0 0 s x
-    → record { books = b; terms = openedTerms o; receipt = r } ≡ openingAfter o
-unfolding openingAfter openingTests
+    → record { books = b; terms = openedTerms o; grid = o .grid; receipt = r } ≡ openingAfter o
+unfolding openingAfter openingTests _then_
 opened o n e z s b x r f g d h = rw (g, h, d, f) (outcome-go _ _ _ n refl e z)
 
 returns-2 : tie.Need-returns-2
 returns-2 c =
     let b = c .before .before .before in
-    let k = b .before .before .before .before in
-    opened (k .before .before .before .args .opening) _ (k .opening-number .ensures) (b .before .before .before .if1 .left) _ _ _ _ (supply (k .before)) (b .books-with .ensures) (c .before .before .nothing-charged .ensures) (c .before .amounts-receipt .ensures)
+    let k = b .before .before .before .before .before in
+    opened (k .before .before .before .args .opening) _ (k .opening-number .ensures) (b .before .before .before .before .if1 .left) _ _ _ _ (supply (k .before)) (b .books-with .ensures) (c .before .before .nothing-charged .ensures) (c .before .amounts-receipt .ensures)
 
 pub decide-spec : {M : Type 1} → statement M
 decide-spec =

@@ -1,7 +1,7 @@
 -- `swap::decide` meets its contract.
 -- Assumes nothing.
 use denote.Ref.{now}
-use Rattle.oracle.specs.Ring.{newest}
+use Rattle.oracle.specs.Ring.{seen}
 use Rattle.quotes.proofs.Laws.{quote-covered}
 use Rattle.swap.proofs.Laws.{quote-refused, quote-booked}
 use borrow.Author.Needs.{needs}
@@ -17,7 +17,7 @@ refused-swap-requires c κs = search needs
 returns : tie.Need-returns
 returns c =
     let a = c .before .before .before .before .args in
-    quote-refused (a .terms) (a .status) (a .books) (a .ring) (newest (a .ring) (now (a .entries))) (a .direction) (a .amount) (a .limit) (a .clock) (a .by-input)
+    quote-refused (a .terms) (a .status) (a .books) (a .ring) (seen (a .ring) (now (a .entries))) (a .direction) (a .amount) (a .limit) (a .clock) (a .by-input)
     (c .before .before .before .quote-swap .ensures) (c .refused-swap .ensures) (c .before .if1 .taken)
 
 is-creator-fee-on-input-requires : tie.Need-is-creator-fee-on-input-requires
@@ -26,8 +26,8 @@ is-creator-fee-on-input-requires c κs = search needs
 creator-token-requires : tie.Need-creator-token-requires
 creator-token-requires c κs = search needs
 
-newest-requires : tie.Need-newest-requires
-newest-requires c κs = search needs
+seen-requires : tie.Need-seen-requires
+seen-requires c κs = search needs
 
 book-requires : tie.Need-book-requires
 book-requires c κs =
@@ -41,9 +41,9 @@ returns-2 c =
     let k = c .before .before .before .before in
     let r = k .before .before in
     let a = r .before .before .before .args in
-    quote-booked (a .terms) (a .status) (a .books) (a .ring) (newest (a .ring) (now (a .entries))) (a .direction) (a .amount) (a .limit) (a .clock) (a .by-input)
+    quote-booked (a .terms) (a .status) (a .books) (a .ring) (seen (a .ring) (now (a .entries))) (a .direction) (a .amount) (a .limit) (a .clock) (a .by-input)
     (r .before .before .quote-swap .ensures) (r .if1 .left) (k .before .is-creator-fee-on-input .ensures) (k .creator-token .ensures)
-    (c .before .newest .ensures) (c .book .ensures)
+    (c .before .seen .ensures) (c .book .ensures)
 
 pub decide-spec : {M : Type 1} → statement M
 decide-spec =
@@ -54,6 +54,6 @@ decide-spec =
     returns
     is-creator-fee-on-input-requires
     creator-token-requires
-    newest-requires
+    seen-requires
     book-requires
     returns-2)

@@ -50,6 +50,12 @@ array-read-t38 c = search needs
 array-read-t41 : tie.Need-array-read-t41
 array-read-t41 c = search needs
 
+array-read-t45 : tie.Need-array-read-t45
+array-read-t45 c = search needs
+
+array-read-t48 : tie.Need-array-read-t48
+array-read-t48 c = search needs
+
 returns : tie.Need-returns
 returns c = rw (c .charges-of .ensures) refl
 
@@ -72,4 +78,6 @@ opening-of-spec =
     array-read-t35
     array-read-t38
     array-read-t41
+    array-read-t45
+    array-read-t48
     returns)

@@ -83,6 +83,12 @@ array-read-t77 c = search needs
 array-read-t80 : tie.Need-array-read-t80
 array-read-t80 c = search needs
 
+array-read-t83 : tie.Need-array-read-t83
+array-read-t83 c = search needs
+
+array-read-t86 : tie.Need-array-read-t86
+array-read-t86 c = search needs
+
 returns : tie.Need-returns
 returns c = rw (c .charges-of .ensures) refl
 
@@ -116,4 +122,6 @@ pool-of-spec =
     array-read-t73
     array-read-t77
     array-read-t80
+    array-read-t83
+    array-read-t86
     returns)

@@ -124,7 +124,7 @@ fn least_sent() -> Vec<Bound> {
 fn openings() -> Vec<Bound> {
     let opening = |amount, model, share, [token_0, token_1]: [Terms; 2]| {
         let terms = [amount, amount, model, 0, 0, 2500, 120_000, 40_000, 0, share];
-        alone(1, &[&terms[..], &token_0, &token_1].concat())
+        alone(1, &[&terms[..], &token_0, &token_1, &Grid::DEFAULT.words()].concat())
     };
     let past = [[10_000, 0], NONE];
     vec![

@@ -181,7 +181,7 @@ type Words<'a> = (u64, &'a [u64]);
 /// The pool after an opening, whose points and maximums stand last, and after calls.
 fn after(amounts: [u64; 2], charges: [u64; 4], calls: &[Words]) -> Pool {
     let rates = [2500, 120_000, 40_000, 1000, 0];
-    let opening = [&amounts[..], &[0, 1, 0], &rates, &charges].concat();
+    let opening = [&amounts[..], &[0, 1, 0], &rates, &charges, &Grid::DEFAULT.words()].concat();
     let next = |state: State, (kind, arguments): &Words| {
         let call = Call::from_words(*kind, arguments).expect("a list holds calls");
         model::run(&state, &call).state

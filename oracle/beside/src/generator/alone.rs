@@ -1,8 +1,8 @@
 //! Functions alone and the ring alone.
 
-use super::charges;
+use super::{charges, grids};
 use crate::random::Random;
-use record::{Case, FORMS};
+use record::{Case, FORMS, RING_ENTRIES, RING_LENT};
 
 /// The ring at nets and the division of an LP amount's product have cases of their own, so that the
 /// others stay as they are.
@@ -76,22 +76,23 @@ pub fn division(random: &mut Random) -> Case {
 /// The ring at two nets, neither of them 0.
 pub fn ring_at_nets(random: &mut Random) -> Case {
     let mut columns = ring(random);
-    columns.truncate(9);
+    columns.truncate(RING_LENT + 1);
     columns.extend([random.any().max(1), random.any().max(1)]);
     Case { kind: AT_NETS, columns }
 }
 
 fn ring(random: &mut Random) -> Vec<u64> {
+    let grid = grids::by_hand(random, grids::mixed);
     let used = u64::from(!random.chance(8));
-    let index =
-        if random.chance(12) { random.pick(&[100, 65_535, 65_536, u64::MAX]) } else { random.below(100) };
+    let index = grids::index(random, grid, 12);
     let mark = if random.chance(4) { 0 } else { random.any() };
-    let entry_clock = if random.chance(3) { random.any() } else { mark.saturating_sub(random.below(20)) };
-    let clock = if random.chance(3) { random.any() } else { entry_clock.saturating_add(random.below(40)) };
-    let mut columns = vec![used, index, mark, entry_clock];
+    let seconds = [(); 2].map(|()| grids::seconds(random, grid));
+    let entry_clock = if random.chance(3) { random.any() } else { mark.saturating_sub(seconds[0] / 2) };
+    let clock = if random.chance(3) { random.any() } else { entry_clock.saturating_add(seconds[1]) };
+    let mut columns = vec![used, index, mark, grid.spacing, grid.length, entry_clock];
     columns.extend((0..4).map(|_| random.any()));
-    if index >= 100 {
-        columns[3..].fill(0);
+    if index >= RING_ENTRIES as u64 {
+        columns[5..].fill(0);
     }
     columns.push(clock);
     for _ in 0..2 {

@@ -2,9 +2,10 @@
 //! pass or just fail.
 
 use super::charges::most_arriving;
+use super::grids;
 use crate::random::Random;
 use model::calls::{charged, nets};
-use record::{Call, Case, State, LOCKED_LP};
+use record::{entry_at, Call, Case, State, LOCKED_LP};
 
 pub fn call(random: &mut Random, state: &State, kind: u64) -> Case {
     let arguments = match kind {
@@ -88,14 +89,16 @@ fn swap_amount(random: &mut Random, state: &State, kind: u64, direction: u64) ->
 }
 
 fn clock(random: &mut Random, state: &State) -> u64 {
-    let (mark, open_time) = (state.pool.head.mark, state.pool.open_time);
-    let clock = match random.below(8) {
+    let (grid, mark, open_time) = (state.pool.grid, state.pool.head.mark, state.pool.open_time);
+    let [entry_clock, ..] = entry_at(&state.ring, state.pool.head.index);
+    let clock = match random.below(9) {
         0 => random.any(),
         1 => random.near(open_time),
         2 => random.near(u64::MAX),
-        3 => random.near(mark.saturating_add(15)),
-        4 => mark.saturating_add(random.sized()),
-        _ => mark.saturating_add(random.below(40)),
+        3 => random.near(mark.saturating_add(grid.spacing)),
+        4 => random.near(entry_clock.saturating_add(grid.spacing)),
+        5 => mark.saturating_add(random.sized()),
+        _ => mark.saturating_add(grids::seconds(random, grid)),
     };
     // Mostly not before the open time.
     match random.below(8) {

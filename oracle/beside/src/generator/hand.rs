@@ -1,25 +1,25 @@
 //! Pools by hand: even ones, full ones, steep ones, and ones that no list of calls reaches.
 
-use super::arguments;
-use super::charges::{self, Charges};
+use super::{arguments, charges, grids, Draws};
 use crate::random::Random;
 use record::{filled_ring, Case, Charge, Pool, Rates, RingHead, State, POOL_LENGTH};
 
-pub fn case(random: &mut Random, charges: Charges) -> Case {
-    let state = state(random, charges);
+pub fn case(random: &mut Random, draws: Draws) -> Case {
+    let state = state(random, draws);
     let kind = random.pick(&[2, 2, 2, 3, 3, 3, 4, 5, 6, 7]);
     arguments::call(random, &state, kind)
 }
 
-fn state(random: &mut Random, charges: Charges) -> State {
+fn state(random: &mut Random, draws: Draws) -> State {
     let mut pool = match random.below(5) {
         0 => small(random),
         1 => even(random),
         2 => full(random),
         3 => steep(random),
-        _ => return inconsistent(random, charges),
+        _ => return inconsistent(random, draws),
     };
-    pool.charges = charges::by_hand(random, charges);
+    pool.charges = charges::by_hand(random, draws.charges);
+    pool.grid = grids::by_hand(random, draws.grids);
     pool.status = if random.chance(8) { random.below(8) } else { 0 };
     pool.open_time = if random.chance(4) { random.any() } else { 0 };
     pool.fee_model = if random.chance(30) { random.pick(&[3, 255]) } else { random.below(3) };
@@ -127,22 +127,27 @@ fn on_top(random: &mut Random, nets: [u64; 2]) -> Pool {
 /// Heads and newest entries of every kind: first use, mark 0, clocks ahead, sums about to wrap.
 fn ring(random: &mut Random, mut pool: Pool) -> State {
     let mark = if random.chance(5) { 0 } else { random.any() };
-    let clock = if random.chance(4) { random.any() } else { mark.saturating_sub(random.below(20)) };
-    let index =
-        if random.chance(25) { random.pick(&[100, 101, 65_535]) } else { random.pick(&[0, 1, 50, 98, 99]) };
+    let clock = if random.chance(4) {
+        random.any()
+    } else {
+        mark.saturating_sub(grids::seconds(random, pool.grid) / 2)
+    };
+    let index = grids::index(random, pool.grid, 25);
     pool.head = RingHead { used: !random.chance(6), index, mark };
     let mut half = || random.pick(&[0, 1, 1 << 32, 1 << 63, u64::MAX - 5, u64::MAX]);
     State { pool, ring: filled_ring(index, [clock, half(), half(), half(), half()]) }
 }
 
 /// Every number as it comes: counters above vaults, sums past 64 bits, an index past the ring.
-fn inconsistent(random: &mut Random, charges: Charges) -> State {
+fn inconsistent(random: &mut Random, draws: Draws) -> State {
     let mut words: [u64; POOL_LENGTH] = std::array::from_fn(|_| random.any());
-    words[21..].copy_from_slice(&Charge::words(charges::by_hand(random, charges)));
+    words[21..25].copy_from_slice(&Charge::words(charges::by_hand(random, draws.charges)));
+    let grid = grids::by_hand(random, draws.grids);
+    words[25..].copy_from_slice(&grid.words());
     words[9] = if random.chance(20) { random.any() } else { random.below(8) };
     words[11] = if random.chance(20) { random.any() } else { random.below(4) };
     (words[12], words[18]) = (random.below(2), random.below(2));
-    words[19] = if random.chance(10) { random.any() } else { random.below(101) };
+    words[19] = if random.chance(10) { random.any() } else { random.up_to(grid.length.min(100)) };
     if !random.chance(4) {
         words[10] = 0;
         let rates = rates(random);

@@ -1,8 +1,7 @@
 //! Lists of calls from openings, in any order, that fill and empty the pool. The next call
 //! gets the state that the rules give after the one before.
 
-use super::charges::{self, Charges};
-use super::{arguments, hand};
+use super::{arguments, charges, grids, hand, Draws};
 use crate::random::Random;
 use record::{Case, Opening, State};
 
@@ -19,7 +18,7 @@ impl List {
 
     pub fn next_case(&mut self, random: &mut Random) -> Case {
         let case = match self.calls_left {
-            0 => opening(random, charges::mixed),
+            0 => opening(random, Draws::MIXED),
             _ => call(random, &self.state),
         };
         let call = case.call().expect("a list holds calls only");
@@ -53,7 +52,7 @@ pub fn call(random: &mut Random, state: &State) -> Case {
 }
 
 /// An opening that begins a list, or is refused.
-pub fn opening(random: &mut Random, charges: Charges) -> Case {
+pub fn opening(random: &mut Random, draws: Draws) -> Case {
     let amounts = match random.below(4) {
         0 => [random.edge(), random.edge()],
         1 => [1 + random.below(300), 1 + random.below(300)],
@@ -63,9 +62,11 @@ pub fn opening(random: &mut Random, charges: Charges) -> Case {
     let enabled = if random.chance(20) { random.any() } else { random.below(2) };
     let open_time = if random.chance(4) { random.any() } else { 0 };
     let rates = hand::rates(random);
-    // Points past what an opening accepts are tried on some that bear charges.
+    // What no opening accepts is tried on some that bear charges or have another grid.
+    let Draws { charges, grids } = draws;
     let charges = if random.chance(10) { charges::by_hand(random, charges) } else { charges(random) };
-    of(Opening { amounts, fee_model, enabled, open_time, rates, charges })
+    let grid = if random.chance(4) { grids::by_hand(random, grids) } else { grids(random) };
+    of(Opening { amounts, fee_model, enabled, open_time, rates, charges, grid })
 }
 
 /// The case of an opening.

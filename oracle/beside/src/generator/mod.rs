@@ -3,11 +3,14 @@
 pub mod alone;
 mod arguments;
 pub mod charges;
+pub mod grids;
 pub mod hand;
 pub mod list;
 pub mod small;
 
 use crate::random::Random;
+use charges::Charges;
+use grids::Grids;
 use list::List;
 use record::Case;
 
@@ -24,6 +27,19 @@ pub fn cases(seed: u64, count: u64) -> impl Iterator<Item = Case> {
 pub fn divisions(seed: u64) -> impl Iterator<Item = Case> {
     let mut random = Random::new(seed);
     std::iter::repeat_with(move || alone::division(&mut random))
+}
+
+/// How a pool's charges and its ring's grid are chosen.
+#[derive(Clone, Copy)]
+pub struct Draws {
+    pub charges: Charges,
+    pub grids: Grids,
+}
+
+impl Draws {
+    /// Points 0, spacing 15 and length 100: there the original is run beside.
+    pub const USUAL: Draws = Draws { charges: charges::none, grids: grids::usual };
+    pub const MIXED: Draws = Draws { charges: charges::mixed, grids: grids::mixed };
 }
 
 pub struct Generator {
@@ -44,7 +60,7 @@ impl Iterator for Generator {
         let random = &mut self.random;
         Some(match random.below(10) {
             0..4 => self.list.next_case(random),
-            4..8 => hand::case(random, charges::mixed),
+            4..8 => hand::case(random, Draws::MIXED),
             _ => alone::case(random),
         })
     }

@@ -1,5 +1,5 @@
-//! Document 01, 'The calls', with document 02 (a), (b), (c) and (e): each is its steps in order, and
-//! the first that fails gives the number.
+//! Document 01, 'The calls', with document 02 (a), (b), (c), (e) and (f): each is its steps in order,
+//! and the first that fails gives the number.
 
 mod liquidity;
 mod opening;

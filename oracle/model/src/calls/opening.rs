@@ -5,10 +5,14 @@ use crate::fees::MILLION;
 use crate::refusal::{refuse_if, EMPTY_SUPPLY, INIT_LP_AMOUNT_TOO_LESS, INVALID_FEE_MODEL, INVALID_INPUT};
 use crate::whole::{whole, whole_root};
 use record::{Opening, Pool, Receipt};
+use std::ops::RangeInclusive;
 
 const LEAST_SUPPLY: u64 = 101;
 /// Of 10,000.
 const MOST_POINTS: u64 = 9999;
+/// Document 02 (f): seconds from one entry of the price ring to the next, and entries.
+const SPACINGS: RangeInclusive<u64> = 1..=3600;
+const LENGTHS: RangeInclusive<u64> = 2..=100;
 
 pub fn open(opening: &Opening) -> Accepted {
     let [amount_0, amount_1] = opening.amounts;
@@ -18,6 +22,8 @@ pub fn open(opening: &Opening) -> Accepted {
     rate_limits(&opening.rates)?;
     refuse_if(opening.rates.share > MILLION, INVALID_INPUT)?;
     refuse_if(opening.charges.iter().any(|charge| charge.points > MOST_POINTS), INVALID_INPUT)?;
+    refuse_if(!SPACINGS.contains(&opening.grid.spacing), INVALID_INPUT)?;
+    refuse_if(!LENGTHS.contains(&opening.grid.length), INVALID_INPUT)?;
     let root = whole_root(whole(amount_0) * whole(amount_1));
     let supply = root.as_u64().expect("the root of a product of two u64 is a u64");
     refuse_if(supply < LEAST_SUPPLY, INIT_LP_AMOUNT_TOO_LESS)?;
@@ -30,6 +36,7 @@ pub fn open(opening: &Opening) -> Accepted {
         enabled: opening.enabled == 1,
         rates: opening.rates,
         charges: opening.charges,
+        grid: opening.grid,
         ..Pool::default()
     };
     let receipt = Receipt { kind: 1, paid_in: opening.amounts, lp: supply, ..Receipt::default() };

@@ -161,7 +161,7 @@ fn booked(
     pool.creator[fee_token] = sum_or(pool.creator[fee_token], receipt.creator_fee, PANIC)?;
     pool.vaults[token_in] = sum_or(pool.vaults[token_in], receipt.paid_in[token_in], MATH_OVERFLOW)?;
     pool.vaults[token_out] -= receipt.paid_out[token_out];
-    ring::update(&mut pool.head, &mut after.ring, swap.clock, ring::prices(terms.nets))?;
+    ring::update(&mut pool.head, pool.grid, &mut after.ring, swap.clock, ring::prices(terms.nets))?;
     Ok((after, receipt))
 }
 

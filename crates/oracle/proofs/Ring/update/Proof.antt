@@ -8,8 +8,8 @@ use borrow.Author.Needs.{needs}
 use Rattle.oracle.proofs.Ring.update.Statement.{statement}
 use Rattle.oracle.proofs.Ring.update.Tie as tie
 
-newest-requires : tie.Need-newest-requires
-newest-requires c κs = search needs
+seen-requires : tie.Need-seen-requires
+seen-requires c κs = search needs
 
 observe-requires : tie.Need-observe-requires
 observe-requires c κs = search needs
@@ -29,7 +29,7 @@ returns c =
     rw (c .after .ensures, c .before .store .ensures)
     (ap (answerOf (a .self) (now (a .entries)))
     (o .observe .ensures
-    ∙ ap (λ (e : Entry). observed (a .self) e (a .clock) (price (a .net0) (a .net1)) (price (a .net1) (a .net0))) (n .newest .ensures)))
+    ∙ ap (λ (e : Entry). observed (a .self) e (a .clock) (price (a .net0) (a .net1)) (price (a .net1) (a .net0))) (n .seen .ensures)))
 
 pub update-spec : {M : Type 1} → statement M
-update-spec = tie.close (tie.spec newest-requires observe-requires store-requires after-requires returns)
+update-spec = tie.close (tie.spec seen-requires observe-requires store-requires after-requires returns)

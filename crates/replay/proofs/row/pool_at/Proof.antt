@@ -6,10 +6,10 @@ use Rattle.replay.proofs.row.pool_at.Statement.{statement}
 use Rattle.replay.proofs.row.pool_at.Tie as tie
 
 abbrev Inv-loop : tie.InvT-loop
-Inv-loop row at numbers₀ i₀ numbers i = i ≤ 25
+Inv-loop row at numbers₀ i₀ numbers i = i ≤ 27
 
 abbrev μ-loop : tie.MeasureT-loop
-μ-loop row at numbers₀ i₀ numbers i = 25 - i
+μ-loop row at numbers₀ i₀ numbers i = 27 - i
 
 loop-holds : tie.Need-loop-holds Inv-loop μ-loop
 loop-holds c = search needs

@@ -16,11 +16,11 @@ start-requires c κs = search needs
 
 -- what an opening comes to, made into a pool
 opened : OpeningAfter → Done
-opened a = done (record { pool = startWith (a .books) (a .terms); receipt = a .receipt }) zeroEntries
+opened a = done (record { pool = startWith (a .books) (a .terms) (a .grid); receipt = a .receipt }) zeroEntries
 
 returns : tie.Need-returns
 unfolding opening opened zeroEntries
-returns c = rw (c .start .ensures) (ap opened (c .before .before .before .before .decide .ensures))
+returns c = rw (c .start .ensures) (ap opened (c .before .before .before .before .before .decide .ensures))
 
 pub open-spec : {M : Type 1} → statement M
 open-spec = tie.close (tie.spec decide-requires start-requires returns)

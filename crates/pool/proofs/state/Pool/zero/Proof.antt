@@ -15,7 +15,7 @@ start-requires c κs = search needs
 
 returns : tie.Need-returns
 unfolding zeroPool refusedOpening
-returns c = rw (c .start .ensures, c .before .before .before .refuse-opening .ensures) refl
+returns c = rw (c .start .ensures, c .before .before .before .before .refuse-opening .ensures) refl
 
 pub zero-spec : {M : Type 1} → statement M
 zero-spec = tie.close (tie.spec refuse-opening-requires start-requires returns)
