@@ -1,17 +1,14 @@
 //! Each call once accepted and once refused, on the pool of the rules' worked example.
 
+mod common;
+
+use common::{opened_with, refuses_on};
 use cp_swap::LOCK_LP_AMOUNT;
 use cp_swap::{Answer, Charge, Direction, FeeModel, Opening, Pool, Rates, Receipt, Refusal, Ring, StatusBit};
 
 const RATES: Rates = Rates { trade: 2_500, protocol: 120_000, fund: 40_000, creator: 0, share: 0 };
 const CHARGES: [Charge; 2] = [Charge { points: 100, maximum: 50 }, Charge { points: 25, maximum: u64::MAX }];
 const MOST: [u64; 2] = [u64::MAX; 2];
-
-fn opened_with(opening: Opening) -> (Pool, Ring) {
-    let (mut pool, mut ring) = (Pool::default(), Ring::default());
-    pool.open(&mut ring, &opening).expect("the opening is accepted");
-    (pool, ring)
-}
 
 fn opening() -> Opening {
     Opening { amounts: [1_000_000, 4_000_000], rates: RATES, ..Opening::default() }
@@ -28,16 +25,6 @@ fn charged() -> (Pool, Ring) {
 /// Refused with this, and neither pool nor ring is changed.
 fn refuses(refusal: Refusal, call: impl FnOnce(&mut Pool, &mut Ring) -> Answer) {
     refuses_on(opened(), refusal, call);
-}
-
-fn refuses_on(
-    (mut pool, mut ring): (Pool, Ring),
-    refusal: Refusal,
-    call: impl FnOnce(&mut Pool, &mut Ring) -> Answer,
-) {
-    let before = (pool, ring.clone());
-    assert_eq!(call(&mut pool, &mut ring), Err(refusal));
-    assert_eq!((pool, ring), before);
 }
 
 #[test]

@@ -1,6 +1,9 @@
 //! The grid of a pool's ring: which grids an opening takes, when the newest entry is overwritten, and where
 //! the index goes. Then grids that only a record built by hand has.
 
+mod common;
+
+use common::{opened_with, refuses_on};
 use cp_swap::{Answer, Direction, Entry, Grid, Opening, Pool, Refusal, Ring, StatusBit, Sum};
 
 const FIRST: u64 = 100;
@@ -11,9 +14,7 @@ fn opening(spacing: u64, length: u64) -> Opening {
 }
 
 fn opened(spacing: u64, length: u64) -> (Pool, Ring) {
-    let (mut pool, mut ring) = (Pool::default(), Ring::default());
-    pool.open(&mut ring, &opening(spacing, length)).expect("the opening is accepted");
-    (pool, ring)
+    opened_with(opening(spacing, length))
 }
 
 /// An opened pool whose grid is then set by hand.
@@ -35,17 +36,6 @@ fn entries_at<const N: usize>((mut pool, mut ring): (Pool, Ring), seconds: [u64;
     })
 }
 
-/// Refused with this, and neither pool nor ring is changed.
-fn refuses(
-    (mut pool, mut ring): (Pool, Ring),
-    refusal: Refusal,
-    call: impl FnOnce(&mut Pool, &mut Ring) -> Answer,
-) {
-    let before = (pool, ring.clone());
-    assert_eq!(call(&mut pool, &mut ring), Err(refusal));
-    assert_eq!((pool, ring), before);
-}
-
 #[test]
 fn an_opening_keeps_a_grid_in_range() {
     for (spacing, length) in [(1, 2), (1, 100), (3_600, 2), (3_600, 100)] {
@@ -61,7 +51,7 @@ fn an_opening_keeps_a_grid_in_range() {
 #[test]
 fn an_opening_refuses_a_grid_out_of_range() {
     let refuses =
-        |refusal, opening| refuses(opened(15, 100), refusal, |pool, ring| pool.open(ring, &opening));
+        |refusal, opening| refuses_on(opened(15, 100), refusal, |pool, ring| pool.open(ring, &opening));
     for spacing in [0, 3_601, u64::MAX] {
         refuses(Refusal::InvalidInput, opening(spacing, 2));
     }
@@ -103,8 +93,8 @@ fn a_swap_without_an_entry_in_the_ring_is_refused() {
         for used in [0, 1] {
             let (mut pool, ring) = by_hand(15, length);
             (pool.ring.used, pool.ring.index) = (used, index);
-            refuses((pool, ring.clone()), Refusal::Panic, |pool, ring| swap(pool, ring, FIRST));
-            refuses((pool, ring), Refusal::Panic, |pool, ring| {
+            refuses_on((pool, ring.clone()), Refusal::Panic, |pool, ring| swap(pool, ring, FIRST));
+            refuses_on((pool, ring), Refusal::Panic, |pool, ring| {
                 pool.swap_base_output(ring, Direction::OneForZero, 1_000, u64::MAX, FIRST)
             });
         }
@@ -113,13 +103,13 @@ fn a_swap_without_an_entry_in_the_ring_is_refused() {
 
 #[test]
 fn the_steps_before_come_first() {
-    refuses(by_hand(15, 0), Refusal::ExceededSlippage, |pool, ring| {
+    refuses_on(by_hand(15, 0), Refusal::ExceededSlippage, |pool, ring| {
         pool.swap_base_input(ring, Direction::ZeroForOne, 1_000, u64::MAX, FIRST)
     });
     let (mut pool, mut ring) = by_hand(15, 0);
     assert!(pool.deposit(&mut ring, 1_000, [u64::MAX; 2]).is_ok());
     assert!(pool.set_status(&mut ring, StatusBit::Swaps, true).is_ok());
-    refuses((pool, ring), Refusal::NotApproved, |pool, ring| swap(pool, ring, FIRST));
+    refuses_on((pool, ring), Refusal::NotApproved, |pool, ring| swap(pool, ring, FIRST));
 }
 
 #[test]

@@ -23,7 +23,6 @@ use Rattle.charge.specs.Charge.{restOf, leastSent, nothingCharged, chargedOn}
 use Rattle.charge.proofs.Rest.{charge-none, rest-none, sent-none}
 use Rattle.oracle.specs.declared.Ring.{Ring}
 use Rattle.oracle.specs.Ring.{Entry, price}
-use Rattle.receipt.specs.declared.BooksAfter.{BooksAfter}
 use Rattle.receipt.specs.Kind.{Opening as kind}
 use Rattle.receipt.specs.Receipt.{refusedBooks, amounts}
 use Rattle.status.specs.Status.{bit}
@@ -33,7 +32,7 @@ use Rattle.liquidity.specs.Liquidity.{depositTests, deposited, depositAt, depos
 use Rattle.opening.specs.declared.Opening.{Opening}
 use Rattle.opening.specs.declared.OpeningAfter.{OpeningAfter}
 use Rattle.opening.specs.Opening.{supplyOf, LeastSupply, HighestPoints, gridTests, openingTests, booksWith, openedTerms, refusedOpening, openingAfter}
-use Rattle.quotes.specs.Quotes.{netIn, netOut, chargeIn, chargeOut, chargedOf, resultOf, looked, frontTests, netTests}
+use Rattle.quotes.specs.Quotes.{netIn, netOut, chargeIn, chargeOut, resultOf, looked, frontTests, netTests}
 use Rattle.swap.specs.declared.SwapAfter.{SwapAfter}
 use Rattle.swap.specs.Swap.{lastTests, inputTests, outputTests, refusedSwap, acceptedSwap, swapAfter}
 use Rattle.fees.specs.Fees.{feeDown}

@@ -1,6 +1,6 @@
 -- What a call does with the ring stays within its length: only a swap uses the ring, and its update stays within the length (`Within.antt` of oracle).
 -- Assumes nothing.
-use Prim.Native.Nat.{ℕ, _*_, _≤_, _<_}
+use Prim.Native.Nat.{ℕ}
 use mathlib.Core.Path.{_≡_, refl, sym, ap, _∙_}
 use mathlib.Core.Bool.{Bool, true, false, true≢false}
 use mathlib.Core.List.{[], _∷_, _++_}
@@ -10,58 +10,47 @@ use Rattle.refusal.proofs.Stops.{Passed, outcome-elim}
 use Rattle.rates.specs.Rates.{rateLimits}
 use Rattle.accounting.specs.Counters.{counterTests}
 use Rattle.oracle.specs.declared.Ring.{Ring}
-use Rattle.oracle.specs.Ring.{Entries, Entry, numberAt, outside}
-use Rattle.oracle.specs.Update.{storedIn}
+use Rattle.oracle.specs.Ring.{Entries, Entry, numberAt, outside, acceptedUpdate}
+use Rattle.oracle.specs.Update.{storedIn, afterOf}
 use Rattle.oracle.proofs.Within as W
 use Rattle.swap.specs.Swap.{lastTests, inputTests, outputTests, acceptedSwap, swapAfter}
 use Rattle.pool.specs.declared.state.Decision.{Decision}
+use Rattle.pool.specs.declared.state.Pool.{Pool}
 use Rattle.pool.specs.State.{refused, Done, doneOf, swappedIn}
-use Rattle.pool.specs.Calls.{decisionOf, swapBaseInput, swapBaseOutput}
+use Rattle.pool.specs.Calls.{zeroEntries, opening, decisionOf, swapBaseInput, swapBaseOutput}
 use Rattle.calls.specs.declared.Call.{Call}
 use Rattle.calls.specs.declared.Call.the-variants.{SwapBaseInput, SwapBaseOutput, Deposit, Withdraw, Settle, SetStatus}
 use Rattle.calls.specs.Next.{State, stateOf, next}
 use Rattle.calls.proofs.Decisions.{decision, swapDecision, testsOf, acceptedOf, refusedAt, call-decides}
 use Rattle.calls.proofs.InRing.{in-ring}
 use Rattle.calls.proofs.Refusals.{call-number-tells}
+use Rattle.calls.proofs.Unfolded.{all}
+use Rattle.sheet.specs.Sheet.{openingWith}
 use Rattle.edges.specs.WithinLength.{ownNumbers, AlikeBefore, numberOf, withRing, Answers11, WithinLength}
 
--- ---- what holds of a refused call, which leaves the ring as it was, and of an accepted one, holds of each
+-- ---- what holds of a pool's ring, and of the ring that an update leaves, holds after every call: the other calls, and a refused one, leave it as it was
 module _ (s : State) (P : Ring → Entries → Type 0) where
   abbrev Here : Done → Type 0
   Here d = P (d .after .pool .ring) (d .entries)
 
-  in-each : (c : Call) → P (s .pool .ring) (s .entries) → (Passed (testsOf s c) → Here (acceptedOf s c)) → Here (next s c)
+  -- an accepted update, which is inside the ring
+  abbrev Updated : Type 0
+  Updated =
+      (e : Entry) (clock price0 price1 : ℕ) → outside (s .pool .ring) ≡ false
+      → let u = acceptedUpdate (s .pool .ring) e clock price0 price1 in P (afterOf (s .pool .ring) u .ring) (storedIn (s .entries) u)
+
+  accepted : (c : Call) → P (s .pool .ring) (s .entries) → Updated → Passed (testsOf s c) → Here (acceptedOf s c)
+  unfolding decision acceptedSwap
+  accepted (SwapBaseInput direction amount minimum clock) h u t = u _ _ _ _ (in-ring true s direction amount minimum clock t)
+  accepted (SwapBaseOutput direction amount maximum clock) h u t = u _ _ _ _ (in-ring false s direction amount maximum clock t)
+  accepted (Deposit lp maximum0 maximum1) h u t = h
+  accepted (Withdraw lp owned minimum0 minimum1) h u t = h
+  accepted (Settle share) h u t = h
+  accepted (SetStatus bit flag) h u t = h
+
+  after-each : (c : Call) → P (s .pool .ring) (s .entries) → Updated → Here (next s c)
   unfolding refused
-  in-each c h accepted = rw (call-decides s c .by-tests) (outcome-elim Here (testsOf s c) (refusedAt s) (acceptedOf s c) (λ n. h) accepted)
-
--- ---- the head
-accepted-stays : (s : State) (c : Call) → acceptedOf s c .after .pool .ring .grid ≡ s .pool .ring .grid
-unfolding decision acceptedSwap
-accepted-stays s (SwapBaseInput direction amount minimum clock) = W.grid-stays _ _ _ _ _
-accepted-stays s (SwapBaseOutput direction amount maximum clock) = W.grid-stays _ _ _ _ _
-accepted-stays s (Deposit lp maximum0 maximum1) = refl
-accepted-stays s (Withdraw lp owned minimum0 minimum1) = refl
-accepted-stays s (Settle share) = refl
-accepted-stays s (SetStatus bit flag) = refl
-
-accepted-inside : (s : State) (c : Call) → Passed (testsOf s c) → outside (acceptedOf s c .after .pool .ring) ≡ outside (s .pool .ring)
-unfolding decision acceptedSwap
-accepted-inside s (SwapBaseInput direction amount minimum clock) t = let h = in-ring true s direction amount minimum clock t in W.stays-inside _ _ _ _ _ h ∙ sym h
-accepted-inside s (SwapBaseOutput direction amount maximum clock) t = let h = in-ring false s direction amount maximum clock t in W.stays-inside _ _ _ _ _ h ∙ sym h
-accepted-inside s (Deposit lp maximum0 maximum1) t = refl
-accepted-inside s (Withdraw lp owned minimum0 minimum1) t = refl
-accepted-inside s (Settle share) t = refl
-accepted-inside s (SetStatus bit flag) t = refl
-
--- ---- what is written
-accepted-unwritten : (s : State) (c : Call) (k : ℕ) → ownNumbers s ≤ k → numberAt (acceptedOf s c .entries) k ≡ numberAt (s .entries) k
-unfolding decision acceptedSwap
-accepted-unwritten s (SwapBaseInput direction amount minimum clock) k h = W.unwritten _ _ _ _ _ _ k h
-accepted-unwritten s (SwapBaseOutput direction amount maximum clock) k h = W.unwritten _ _ _ _ _ _ k h
-accepted-unwritten s (Deposit lp maximum0 maximum1) k h = refl
-accepted-unwritten s (Withdraw lp owned minimum0 minimum1) k h = refl
-accepted-unwritten s (Settle share) k h = refl
-accepted-unwritten s (SetStatus bit flag) k h = refl
+  after-each c h u = rw (call-decides s c .by-tests) (outcome-elim Here (testsOf s c) (refusedAt s) (acceptedOf s c) (λ n. h) (accepted c h u))
 
 -- ---- what is read: a decision over the entry that is seen, on entries that are alike
 module _ (n : ℕ) (a b : Entries) where
@@ -135,9 +124,27 @@ swaps-answer-11 s direction amount limit clock h = (
 
 pub within-length : WithinLength
 within-length = record {
-  stays = λ s c. in-each s (λ ring _. ring .grid ≡ s .pool .ring .grid) c refl (λ _. accepted-stays s c);
-  inside = λ s c. in-each s (λ ring _. outside ring ≡ outside (s .pool .ring)) c refl (accepted-inside s c);
-  unwritten = λ s c k h. in-each s (λ _ entries. numberAt entries k ≡ numberAt (s .entries) k) c refl (λ _. accepted-unwritten s c k h);
+  stays = λ s c. after-each s (λ ring _. ring .grid ≡ s .pool .ring .grid) c refl (λ e clock price0 price1 _. W.grid-stays (s .pool .ring) e clock price0 price1);
+  inside = λ s c.
+      after-each s (λ ring _. outside ring ≡ outside (s .pool .ring)) c refl (λ e clock price0 price1 h. W.stays-inside (s .pool .ring) e clock price0 price1 h ∙ sym h);
+  unwritten = λ s c k l.
+      after-each s (λ _ entries. numberAt entries k ≡ numberAt (s .entries) k) c refl (λ e clock price0 price1 _. W.unwritten (s .pool .ring) e clock price0 price1 (s .entries) k l);
   unread = λ s others c l m h. next-alike s others c (record { long = l; other-long = m; before = h });
   refused = swaps-answer-11;
 }
+
+-- ---- it speaks of something: the worked swap is accepted by the worked pool, and is 11 where its ring has two entries and the index is 2
+abbrev workedPool : Pool
+workedPool = opening (openingWith 1000000 4000000 0 0 0 (record { trade = 2500; protocol = 120000; fund = 40000; creator = 0; share = 0 })) .after .pool
+
+abbrev workedSwap : Call
+workedSwap = SwapBaseInput 0 10000 1 100
+
+pub accepted-inside : numberOf (stateOf workedPool zeroEntries) workedSwap ≡ 0
+unfolding all
+accepted-inside = refl
+
+pub eleven-outside :
+    numberOf (withRing workedPool (record { used = false; index = 2; mark = 0; grid = record { spacing = 15; length = 2 } }) zeroEntries) workedSwap ≡ 11
+unfolding all
+eleven-outside = refl

@@ -13,8 +13,7 @@ use Rattle.oracle.specs.declared.Ring.{Ring}
 use Rattle.oracle.specs.declared.Observation.{Observation}
 use Rattle.oracle.specs.declared.Update.{Update}
 use Rattle.oracle.specs.declared.Update.the-variants.{Refused, Kept, Stored}
-use Rattle.wide.specs.Value.{u128Of}
-use Rattle.oracle.specs.Ring.{Entries, ringWords, Entry, numberAt, entryAt, withEntry, newest, outside, seen, still, markOf, movedOn, overwrites, nextIndex, head, acceptedUpdate}
+use Rattle.oracle.specs.Ring.{Entries, ringWords, Entry, numberAt, entryAt, withEntry, newest, outside, seen, still, markOf, overwrites, nextIndex, head, acceptedUpdate}
 use Rattle.oracle.specs.Update.{entryOf, storedIn, afterOf}
 use Rattle.oracle.proofs.Inside.{inside-means, entry-inside, next-inside}
 
