@@ -1,11 +1,12 @@
 /*
  * A constant-product token pool over plain memory: libcp_swap.a, x86-64 Linux.
  *
- * The caller owns three arrays: the pool's record, the ring of its prices and a receipt. A call
- * answers 0 when it is accepted; then the three hold what the call gives. Any other answer is the
- * number of a refusal; then pool and ring are as they were, and the receipt holds that number and
- * zeros. No number that a call is given makes it trap, loop or touch other memory. A day sheet does
- * the calls that its rows ask for, and answers in rows: see the end of this file.
+ * The caller owns three arrays: the pool's record, the ring of its prices and a receipt; and a fourth
+ * where a register is to keep its holders' LP tokens. A call answers 0 when it is accepted; then the
+ * arrays hold what the call gives. Any other answer is the number of a refusal; then pool, ring and
+ * register are as they were, and the receipt holds that number and zeros. No number that a call is
+ * given makes it trap, loop or touch other memory. A day sheet does the calls that its rows ask for,
+ * and answers in rows: see the end of this file.
  *
  * The arrays must be of the lengths below, may not overlap, and are only used during the call. The
  * library keeps nothing, allocates nothing and locks nothing: calls on different arrays may run at
@@ -91,6 +92,14 @@ enum {
     CP_SWAP_RECEIPT_LENGTH
 };
 
+/* ---- a register: 1 to 256 entries, zeros for a new one. Among those with a balance no number is 0 or
+ * stands twice. One of balance 0 is free for anyone, whichever number stands in it. */
+struct cp_swap_holder {
+    uint64_t number;  /* from 1 */
+    uint64_t balance; /* LP tokens */
+};
+enum { CP_SWAP_MOST_HOLDERS = 256 };
+
 /* ---- a day sheet: 6 numbers and the bytes of a row that is begun; zeros before the first row */
 enum {
     CP_SWAP_SHEET_TRADE_RATE, /* the rates for the next opening */
@@ -116,12 +125,13 @@ enum {
     CP_SWAP_NOT_APPROVED = 1, /* closed, or a swap before the open time, whatever the amount */
     CP_SWAP_EXCEEDED_SLIPPAGE = 2,
     CP_SWAP_INVALID_INPUT = 3, /* a rate, flag, bit, share, points, spacing or length out of range;
-                                * also: a record whose enabled or ring-used is neither 0 nor 1 */
+                                * also: a record whose enabled or ring-used is neither 0 nor 1; a list
+                                * that is no register, or a holder 0 */
     CP_SWAP_ZERO_TRADING_TOKENS = 4, /* deposits and withdrawals; no swap answers it */
     CP_SWAP_INVALID_VAULT = 5,
     CP_SWAP_EMPTY_SUPPLY = 6,
     CP_SWAP_INSUFFICIENT_VAULT = 7,
-    CP_SWAP_MATH_OVERFLOW = 8,
+    CP_SWAP_MATH_OVERFLOW = 8, /* a sum, a vault or a holder's balance past 2^64 - 1 */
     CP_SWAP_INVALID_FEE_MODEL = 9,
     CP_SWAP_REQUIRE_VIOLATED = 10, /* an amount is 0, of a swap what arrives or is received, or LP
                                     * above the owner's */
@@ -130,7 +140,8 @@ enum {
     CP_SWAP_UNREADABLE_ROW = 12,
     CP_SWAP_INIT_LP_AMOUNT_TOO_LESS = 13,
     CP_SWAP_TRANSFER_FEE_CALCULATE_NOT_MATCH = 14, /* no u64 can be sent that leaves the wanted amount */
-    CP_SWAP_LEFT_LP_AMOUNT_TOO_LESS = 15 /* a withdrawal would leave fewer than CP_SWAP_LOCK_LP_AMOUNT */
+    CP_SWAP_LEFT_LP_AMOUNT_TOO_LESS = 15, /* a withdrawal would leave fewer than CP_SWAP_LOCK_LP_AMOUNT */
+    CP_SWAP_REGISTER_FULL = 16 /* a new holder, and every entry of the register has a balance */
 };
 
 /* ---- so many LP tokens are locked at the opening; the supply counts them, the opener gets the rest */
@@ -196,6 +207,67 @@ uint64_t cp_swap_set_status(uint64_t pool[27], uint64_t ring[500], uint64_t rece
 /* The vaults less their counters: what the LP tokens are worth together. Where it is refused the
  * nets are left as they were. */
 uint64_t cp_swap_nets(const uint64_t pool[27], uint64_t nets[2]);
+
+/* ---- the calls with a register
+ *
+ * Each is a call above, by a holder whose LP tokens a register of `count` entries keeps; pool, ring and
+ * receipt become what they become without one. Before every other test the call answers 3 where the
+ * count is 0 or above CP_SWAP_MOST_HOLDERS, where among the entries with a balance a number is 0 or
+ * stands twice, or where the holder is 0. The array may not be null, even for a count of 0.
+ *
+ * From an accepted opening on, as long as every deposit and withdrawal takes the register and nobody
+ * else writes to it, its balances and CP_SWAP_LOCK_LP_AMOUNT together are the supply.
+ */
+
+/* The library's own, over numbers: two for each entry. An odd count of them is no register. */
+uint64_t cp_swap_open_registered(uint64_t pool[27], uint64_t ring[500], uint64_t receipt[18],
+                                 const struct cp_swap_opening *opening, uint64_t *holders,
+                                 size_t numbers, uint64_t holder);
+uint64_t cp_swap_deposit_registered(uint64_t pool[27], uint64_t ring[500], uint64_t receipt[18],
+                                    uint64_t *holders, size_t numbers, uint64_t holder, uint64_t lp,
+                                    uint64_t maximum_0, uint64_t maximum_1);
+uint64_t cp_swap_withdraw_registered(uint64_t pool[27], uint64_t ring[500], uint64_t receipt[18],
+                                     uint64_t *holders, size_t numbers, uint64_t holder, uint64_t lp,
+                                     uint64_t minimum_0, uint64_t minimum_1);
+uint64_t cp_swap_balance(const uint64_t *holders, size_t numbers, uint64_t holder, uint64_t *balance);
+
+/* A new pool. The register, whose old entries are tested too, is set to zeros, and its first entry
+ * becomes the opener's, with the supply less CP_SWAP_LOCK_LP_AMOUNT. */
+static inline uint64_t cp_swap_open_by(uint64_t pool[27], uint64_t ring[500], uint64_t receipt[18],
+                                       struct cp_swap_holder *holders, size_t count, uint64_t holder,
+                                       const struct cp_swap_opening *opening)
+{
+    return cp_swap_open_registered(pool, ring, receipt, opening, &holders->number, 2 * count, holder);
+}
+
+/* A deposit, credited to the holder's entry. A new holder, which is one without a balance, takes the
+ * first entry of balance 0. The last tests: 8 where the balance would pass 2^64 - 1, then 16 where a
+ * new holder finds every entry with a balance. */
+static inline uint64_t cp_swap_deposit_by(uint64_t pool[27], uint64_t ring[500], uint64_t receipt[18],
+                                          struct cp_swap_holder *holders, size_t count, uint64_t holder,
+                                          uint64_t lp, uint64_t maximum_0, uint64_t maximum_1)
+{
+    return cp_swap_deposit_registered(pool, ring, receipt, &holders->number, 2 * count, holder, lp,
+                                      maximum_0, maximum_1);
+}
+
+/* A withdrawal, debited to the holder's entry: what he owns is his balance. At a balance of 0 the entry
+ * keeps its number and is free. */
+static inline uint64_t cp_swap_withdraw_by(uint64_t pool[27], uint64_t ring[500], uint64_t receipt[18],
+                                           struct cp_swap_holder *holders, size_t count, uint64_t holder,
+                                           uint64_t lp, uint64_t minimum_0, uint64_t minimum_1)
+{
+    return cp_swap_withdraw_registered(pool, ring, receipt, &holders->number, 2 * count, holder, lp,
+                                       minimum_0, minimum_1);
+}
+
+/* The holder's LP tokens, 0 where he has no entry. Answers 0, or 3 as the calls do; then the balance is
+ * left as it was. */
+static inline uint64_t cp_swap_balance_of(const struct cp_swap_holder *holders, size_t count,
+                                          uint64_t holder, uint64_t *balance)
+{
+    return cp_swap_balance(&holders->number, 2 * count, holder, balance);
+}
 
 /* ---- the day sheet
  *

@@ -1,12 +1,14 @@
-//! Each call of the port beside the original's handler and beside its bare core, then the steps of
-//! its arithmetic beside u128, in one process on fresh random data. Prints the tables; `bench/run`
-//! says where they and the chart go.
+//! Each call of the port beside the original's handler and beside its bare core, then those with a
+//! register beside the same without one, then the steps of its arithmetic beside u128, in one process
+//! on fresh random data. Prints the tables; `bench/run` says where they and the chart go.
 
 mod arithmetic;
 mod bare_core;
 mod chart;
 mod handler;
+mod holders;
 mod measure;
+mod register;
 mod table;
 
 use beside::random::Random;
@@ -34,6 +36,7 @@ fn main() -> ExitCode {
         })
         .collect();
     println!("### The calls, nanoseconds\n\n{}", table::markdown(&rows));
+    println!("### With a register, nanoseconds\n\n{}", register::measured(&mut random, batches));
     print!("### The arithmetic, nanoseconds\n\n{}", arithmetic::measured(&mut random, batches));
     match fs::write(chart, chart::svg(&rows)) {
         Ok(()) => ExitCode::SUCCESS,

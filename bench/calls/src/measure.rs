@@ -45,7 +45,7 @@ pub fn measured(bench: &Bench, random: &mut Random, batches: usize) -> Times {
 }
 
 /// A call that the port accepts.
-fn accepted(bench: &Bench, random: &mut Random, at: u64) -> Work {
+pub fn accepted(bench: &Bench, random: &mut Random, at: u64) -> Work {
     loop {
         let work = bench.work(random, at);
         if Port::of(&work.state, 0).call(&work.call) == 0 {
@@ -93,9 +93,9 @@ fn with_accounts(memory: &mut Memory, work: &Work) -> bool {
     accounts(memory, work).is_some_and(|mut accounts| run(&mut accounts, &work.call).is_ok())
 }
 
-/// Nanoseconds for a call; every one is accepted.
+/// Nanoseconds for a call; every one says that it was answered as it should be.
 #[inline(always)]
-fn timed<T>(
+pub fn timed<T>(
     sides: &mut [T],
     works: &[Work],
     touch: impl Fn(&T),
@@ -104,12 +104,12 @@ fn timed<T>(
     sides.iter().for_each(touch);
     black_box(works.iter().map(|work| work.call.kind()).sum::<u64>());
     let start = Instant::now();
-    let mut accepted = true;
+    let mut as_it_should = true;
     for (side, work) in sides.iter_mut().zip(works) {
-        accepted &= black_box(call(side, work));
+        as_it_should &= black_box(call(side, work));
     }
     let time = start.elapsed().as_nanos() as f64 / works.len() as f64;
-    assert!(accepted, "every side accepts these calls");
+    assert!(as_it_should, "every side answers these calls as it should");
     time
 }
 

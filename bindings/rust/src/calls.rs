@@ -1,7 +1,7 @@
 //! The calls on a pool.
 
 use crate::plain;
-use crate::{Charge, Grid, Pool, Rates, Receipt, Refusal, Ring};
+use crate::{Charge, Grid, Pool, Rates, Receipt, Refusal, Register, Ring};
 
 /// Which token goes in.
 #[derive(Clone, Copy, Debug, PartialEq, Eq)]
@@ -171,6 +171,56 @@ impl Pool {
         answered(number, nets)
     }
 
+    /// [`open`](Pool::open) by a holder. The register's entries are set to zeros, and the first becomes the
+    /// opener's, with all LP tokens but [`LOCK_LP_AMOUNT`]. A holder 0 is refused first, with
+    /// [`Refusal::InvalidInput`], here and in the two calls below.
+    pub fn open_by(
+        &mut self,
+        ring: &mut Ring,
+        register: &mut Register,
+        holder: u64,
+        opening: &Opening,
+    ) -> Answer {
+        let (opening, holders) = (opening.words(), register.words_mut());
+        self.call(ring, |pool, ring, receipt| {
+            plain::open_registered(pool, ring, receipt, &opening, holders, holder)
+        })
+    }
+
+    /// [`deposit`](Pool::deposit) by a holder, whose entry is credited. A new holder, which is one without a
+    /// balance, takes the first entry of balance 0. The last tests: [`Refusal::MathOverflow`] where the
+    /// balance would pass its width, then [`Refusal::RegisterFull`] where a new holder finds every entry
+    /// with a balance.
+    pub fn deposit_by(
+        &mut self,
+        ring: &mut Ring,
+        register: &mut Register,
+        holder: u64,
+        lp: u64,
+        maximums: [u64; 2],
+    ) -> Answer {
+        let holders = register.words_mut();
+        self.call(ring, |pool, ring, receipt| {
+            plain::deposit_registered(pool, ring, receipt, holders, holder, lp, maximums)
+        })
+    }
+
+    /// [`withdraw`](Pool::withdraw) by a holder, who owns the balance of his entry. The entry is debited; at
+    /// 0 it keeps its number and is free for anyone.
+    pub fn withdraw_by(
+        &mut self,
+        ring: &mut Ring,
+        register: &mut Register,
+        holder: u64,
+        lp: u64,
+        minimums: [u64; 2],
+    ) -> Answer {
+        let holders = register.words_mut();
+        self.call(ring, |pool, ring, receipt| {
+            plain::withdraw_registered(pool, ring, receipt, holders, holder, lp, minimums)
+        })
+    }
+
     fn call(
         &mut self,
         ring: &mut Ring,
@@ -182,7 +232,8 @@ impl Pool {
     }
 }
 
-fn answered<T>(number: u64, given: T) -> Result<T, Refusal> {
+/// What a call gives, unless its number is that of a refusal.
+pub(crate) fn answered<T>(number: u64, given: T) -> Result<T, Refusal> {
     match number {
         0 => Ok(given),
         _ => Err(Refusal::from_number(number).expect("the library answers with its table's numbers")),

@@ -1,6 +1,7 @@
-//! A constant-product token pool: its swaps, deposits, withdrawals, settlements, its ring of prices
-//! and its [day sheet](DaySheet). The calls are those of `libcp_swap.a`, whose every function is
-//! proved to meet its contract; this crate gives them names and types and adds no rule of its own.
+//! A constant-product token pool: its swaps, deposits, withdrawals, settlements, its ring of prices,
+//! the [register](Register) of its holders and its [day sheet](DaySheet). The calls are those of
+//! `libcp_swap.a`, whose every function is proved to meet its contract; this crate gives them names and
+//! types and adds no rule of its own.
 //!
 //! A call either is accepted, and gives a [`Receipt`], or it is refused with a [`Refusal`] and has
 //! changed nothing. No number makes a call panic.
@@ -31,6 +32,7 @@ mod day_sheet;
 mod receipt;
 mod record;
 mod refusal;
+mod register;
 mod ring;
 
 pub mod plain;
@@ -40,4 +42,5 @@ pub use day_sheet::{DaySheet, Progress, ROW_LENGTH};
 pub use receipt::Receipt;
 pub use record::{Charge, Grid, Pool, Rates, RingHead};
 pub use refusal::Refusal;
+pub use register::{Holder, Register, MOST_HOLDERS};
 pub use ring::{Entry, Ring, Sum, RING_ENTRIES};

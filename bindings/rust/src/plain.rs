@@ -6,8 +6,9 @@
 
 #![allow(unsafe_code)]
 
-use crate::{Pool, Receipt, Ring};
+use crate::{Holder, Pool, Receipt, Ring};
 use std::mem::{align_of, size_of};
+use std::slice;
 
 /// A pool's record: the fields of [`Pool`] in their order.
 pub type PoolWords = [u64; 27];
@@ -46,6 +47,19 @@ extern "C" {
     fn cp_swap_settle_creator_fee(pool: *mut u64, ring: *mut u64, receipt: *mut u64, share: u64) -> u64;
     fn cp_swap_set_status(pool: *mut u64, ring: *mut u64, receipt: *mut u64, bit: u64, flag: u64) -> u64;
     fn cp_swap_nets(pool: *const u64, nets: *mut u64) -> u64;
+    fn cp_swap_open_registered(
+        pool: *mut u64, ring: *mut u64, receipt: *mut u64, opening: *const u64,
+        holders: *mut u64, numbers: usize, holder: u64,
+    ) -> u64;
+    fn cp_swap_deposit_registered(
+        pool: *mut u64, ring: *mut u64, receipt: *mut u64, holders: *mut u64, numbers: usize,
+        holder: u64, lp: u64, maximum_0: u64, maximum_1: u64,
+    ) -> u64;
+    fn cp_swap_withdraw_registered(
+        pool: *mut u64, ring: *mut u64, receipt: *mut u64, holders: *mut u64, numbers: usize,
+        holder: u64, lp: u64, minimum_0: u64, minimum_1: u64,
+    ) -> u64;
+    fn cp_swap_balance(holders: *const u64, numbers: usize, holder: u64, balance: *mut u64) -> u64;
     fn cp_swap_day_sheet(
         pool: *mut u64, ring: *mut u64, sheet: *mut u64, held: *mut u8,
         input: *const u8, input_length: usize, output: *mut u8, output_length: usize, progress: *mut u64,
@@ -159,6 +173,66 @@ pub fn nets(pool: &PoolWords, nets: &mut [u64; 2]) -> u64 {
     unsafe { cp_swap_nets(pool.as_ptr(), nets.as_mut_ptr()) }
 }
 
+/// An opening with a register: two numbers an entry, its number and its balance. An odd count of numbers is
+/// no register. The old entries are tested and, where the opening is accepted, cleared.
+pub fn open_registered(
+    pool: &mut PoolWords,
+    ring: &mut RingWords,
+    receipt: &mut ReceiptWords,
+    opening: &OpeningWords,
+    holders: &mut [u64],
+    holder: u64,
+) -> u64 {
+    let (pool, ring, receipt) = (pool.as_mut_ptr(), ring.as_mut_ptr(), receipt.as_mut_ptr());
+    let (numbers, holders) = (holders.len(), holders.as_mut_ptr());
+    // SAFETY: as said above.
+    unsafe { cp_swap_open_registered(pool, ring, receipt, opening.as_ptr(), holders, numbers, holder) }
+}
+
+/// A deposit with a register, which is as in [`open_registered`].
+pub fn deposit_registered(
+    pool: &mut PoolWords,
+    ring: &mut RingWords,
+    receipt: &mut ReceiptWords,
+    holders: &mut [u64],
+    holder: u64,
+    lp: u64,
+    maximums: [u64; 2],
+) -> u64 {
+    let (pool, ring, receipt) = (pool.as_mut_ptr(), ring.as_mut_ptr(), receipt.as_mut_ptr());
+    let (numbers, holders) = (holders.len(), holders.as_mut_ptr());
+    let [maximum_0, maximum_1] = maximums;
+    // SAFETY: as said above.
+    unsafe {
+        cp_swap_deposit_registered(pool, ring, receipt, holders, numbers, holder, lp, maximum_0, maximum_1)
+    }
+}
+
+/// A withdrawal with a register, which is as in [`open_registered`].
+pub fn withdraw_registered(
+    pool: &mut PoolWords,
+    ring: &mut RingWords,
+    receipt: &mut ReceiptWords,
+    holders: &mut [u64],
+    holder: u64,
+    lp: u64,
+    minimums: [u64; 2],
+) -> u64 {
+    let (pool, ring, receipt) = (pool.as_mut_ptr(), ring.as_mut_ptr(), receipt.as_mut_ptr());
+    let (numbers, holders) = (holders.len(), holders.as_mut_ptr());
+    let [minimum_0, minimum_1] = minimums;
+    // SAFETY: as said above.
+    unsafe {
+        cp_swap_withdraw_registered(pool, ring, receipt, holders, numbers, holder, lp, minimum_0, minimum_1)
+    }
+}
+
+/// A holder's balance in a register, which is as in [`open_registered`]. Refused, it leaves `balance` as it was.
+pub fn balance(holders: &[u64], holder: u64, balance: &mut u64) -> u64 {
+    // SAFETY: as said above.
+    unsafe { cp_swap_balance(holders.as_ptr(), holders.len(), holder, balance) }
+}
+
 /// A piece of a day sheet: takes bytes as long as the output has room for another row of 103, and
 /// answers each row that they end. The progress is how many bytes were taken and how many written.
 pub fn day_sheet(
@@ -211,4 +285,16 @@ macro_rules! as_words {
     )*};
 }
 
-as_words!(Pool: PoolWords, Ring: RingWords, Receipt: ReceiptWords);
+as_words!(Pool: PoolWords, Ring: RingWords, Receipt: ReceiptWords, Holder: [u64; 2]);
+
+/// Entries of a register as numbers, two each.
+pub fn holder_words(entries: &[Holder]) -> &[u64] {
+    // SAFETY: an entry is two u64 without gaps, as said above; so many entries are twice as many u64.
+    unsafe { slice::from_raw_parts(entries.as_ptr().cast(), 2 * entries.len()) }
+}
+
+/// Entries of a register as numbers, two each, to read and to write.
+pub fn holder_words_mut(entries: &mut [Holder]) -> &mut [u64] {
+    // SAFETY: an entry is two u64 without gaps, as said above; so many entries are twice as many u64.
+    unsafe { slice::from_raw_parts_mut(entries.as_mut_ptr().cast(), 2 * entries.len()) }
+}

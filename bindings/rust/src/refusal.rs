@@ -11,7 +11,8 @@ pub enum Refusal {
     NotApproved = 1,
     /// An amount is beyond the caller's limit.
     ExceededSlippage = 2,
-    /// A rate, flag, bit, share, a charge's points, a spacing or a length is out of range.
+    /// A rate, flag, bit, share, a charge's points, a spacing or a length is out of range; or a list is no
+    /// [`Register`](crate::Register), or a holder is 0.
     InvalidInput = 3,
     /// An amount of a deposit or withdrawal would be 0, or the supply is. No swap answers it.
     ZeroTradingTokens = 4,
@@ -21,7 +22,7 @@ pub enum Refusal {
     EmptySupply = 6,
     /// The counters are above a vault, or a vault can't pay.
     InsufficientVault = 7,
-    /// A sum or a vault would pass its width.
+    /// A sum, a vault or a holder's balance would pass its width.
     MathOverflow = 8,
     /// The fee model is above 2.
     InvalidFeeModel = 9,
@@ -38,11 +39,13 @@ pub enum Refusal {
     TransferFeeCalculateNotMatch = 14,
     /// A withdrawal that would leave fewer than [`LOCK_LP_AMOUNT`](crate::LOCK_LP_AMOUNT) LP tokens.
     LeftLpAmountTooLess = 15,
+    /// A deposit by a new holder, and every entry of the register has a balance.
+    RegisterFull = 16,
 }
 
 impl Refusal {
     /// All of them, in the order of their numbers.
-    pub const ALL: [Refusal; 15] = [
+    pub const ALL: [Refusal; 16] = [
         Refusal::NotApproved,
         Refusal::ExceededSlippage,
         Refusal::InvalidInput,
@@ -58,9 +61,10 @@ impl Refusal {
         Refusal::InitLpAmountTooLess,
         Refusal::TransferFeeCalculateNotMatch,
         Refusal::LeftLpAmountTooLess,
+        Refusal::RegisterFull,
     ];
 
-    /// The refusal's number, 1 to 15.
+    /// The refusal's number, 1 to 16.
     pub fn number(self) -> u64 {
         self as u64
     }
@@ -76,13 +80,14 @@ impl Refusal {
             Refusal::NotApproved => "the pool is closed for such calls, or not yet open",
             Refusal::ExceededSlippage => "the price is beyond the caller's limit",
             Refusal::InvalidInput => {
-                "a rate, flag, status bit, share, points, spacing or length is out of range"
+                "a rate, flag, status bit, share, points, spacing or length is out of range, the list is no \
+                 register, or the holder is 0"
             }
             Refusal::ZeroTradingTokens => "an amount of tokens would be none",
             Refusal::InvalidVault => "the direction is neither 0 nor 1",
             Refusal::EmptySupply => "an opening without tokens",
             Refusal::InsufficientVault => "the fee counters are above the vault, or it cannot pay",
-            Refusal::MathOverflow => "a sum or a vault would pass its width",
+            Refusal::MathOverflow => "a sum, a vault or a holder's balance would pass its width",
             Refusal::InvalidFeeModel => "there is no such fee model",
             Refusal::RequireViolated => "an amount is 0, or LP tokens are not the owner's",
             Refusal::Panic => {
@@ -92,6 +97,7 @@ impl Refusal {
             Refusal::InitLpAmountTooLess => "the opening's supply is below 101",
             Refusal::TransferFeeCalculateNotMatch => "no u64 can be sent that leaves the wanted amount",
             Refusal::LeftLpAmountTooLess => "fewer than the 100 locked LP tokens would be left",
+            Refusal::RegisterFull => "a new holder, and every entry of the register has a balance",
         }
     }
 }

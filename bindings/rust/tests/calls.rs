@@ -2,17 +2,12 @@
 
 mod common;
 
-use common::{opened_with, refuses_on};
+use common::{opened_with, opening, refuses_on, RATES};
 use cp_swap::LOCK_LP_AMOUNT;
 use cp_swap::{Answer, Charge, Direction, FeeModel, Opening, Pool, Rates, Receipt, Refusal, Ring, StatusBit};
 
-const RATES: Rates = Rates { trade: 2_500, protocol: 120_000, fund: 40_000, creator: 0, share: 0 };
 const CHARGES: [Charge; 2] = [Charge { points: 100, maximum: 50 }, Charge { points: 25, maximum: u64::MAX }];
 const MOST: [u64; 2] = [u64::MAX; 2];
-
-fn opening() -> Opening {
-    Opening { amounts: [1_000_000, 4_000_000], rates: RATES, ..Opening::default() }
-}
 
 fn opened() -> (Pool, Ring) {
     opened_with(opening())

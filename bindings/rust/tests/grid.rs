@@ -10,7 +10,7 @@ const FIRST: u64 = 100;
 const MARK: Entry = Entry { clock: u64::MAX, sums: [Sum { high: 7, low: 7 }; 2] };
 
 fn opening(spacing: u64, length: u64) -> Opening {
-    Opening { amounts: [1_000_000, 4_000_000], grid: Grid { spacing, length }, ..Opening::default() }
+    Opening { grid: Grid { spacing, length }, ..common::opening() }
 }
 
 fn opened(spacing: u64, length: u64) -> (Pool, Ring) {

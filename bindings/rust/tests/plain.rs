@@ -1,6 +1,6 @@
 //! The calls over plain numbers: what a refusal leaves, and the order of the numbers.
 
-use cp_swap::{plain, Charge, Entry, Grid, Pool, Rates, Receipt, Refusal, Ring, RingHead, Sum};
+use cp_swap::{plain, Charge, Entry, Grid, Holder, Pool, Rates, Receipt, Refusal, Ring, RingHead, Sum};
 
 fn opened() -> ([u64; 27], [u64; 500]) {
     let (mut pool, mut ring, mut receipt) = ([0; 27], [0; 500], [0; 18]);
@@ -113,6 +113,11 @@ fn records_are_their_numbers_in_order() {
 
     let mut receipt = Receipt { shared: [1, 2], charges: [3, 4], ..Receipt::default() };
     assert_eq!(receipt.words_mut()[14..], [1, 2, 3, 4]);
+
+    let mut entries = [Holder { number: 1, balance: 2 }, Holder { number: 3, balance: 4 }];
+    assert_eq!(plain::holder_words(&entries), [1, 2, 3, 4]);
+    plain::holder_words_mut(&mut entries)[3] = 5;
+    assert_eq!(entries[1], Holder { number: 3, balance: 5 });
 }
 
 #[test]
@@ -122,6 +127,6 @@ fn refusals_keep_their_numbers() {
         assert_eq!(Refusal::from_number(refusal.number()), Some(refusal));
     }
     assert_eq!(Refusal::from_number(0), None);
-    assert_eq!(Refusal::from_number(16), None);
+    assert_eq!(Refusal::from_number(17), None);
     assert_eq!(Refusal::ExceededSlippage.to_string(), "the price is beyond the caller's limit (refusal 2)");
 }

@@ -1,5 +1,6 @@
 pub mod Decisions
 pub mod InRing
+pub mod Entries
 pub mod Refusals
 pub mod FairCalls
 pub mod Within

@@ -13,6 +13,7 @@ use Rattle.pool.specs.Calls.{opening}
 use Rattle.calls.specs.declared.Call.{Call}
 use Rattle.calls.specs.Next.{State, next, left}
 use Rattle.calls.specs.Refused.{RefusalsLeaveAll}
+use Rattle.calls.proofs.Entries.{entered-tells, opened-tells}
 use Rattle.calls.proofs.Decisions.{Decision, decision, openingDecision, refusedAt, zeroState, numberOf, Decides, call-decides, opening-decides}
 
 -- refused: pool and ring unchanged, the number of the first test that fails, and zero amounts
@@ -67,4 +68,6 @@ unfolding RefusalsLeaveAll
 refusals-leave-all = (
   λ s c f. let r = call-number-tells s c .where-refused f in record { unchanged = r .unchanged; zeros = r .zeros },
   λ o f. let r = opening-number-tells o .where-refused f in record { unchanged = r .unchanged; zeros = r .zeros },
+  λ s es c f. entered-tells s es c .where-refused f,
+  λ o es holder f. opened-tells o es holder .where-refused f,
 )

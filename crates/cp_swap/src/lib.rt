@@ -3,6 +3,7 @@
 // this is taken for granted and not tested.
 // A call returns 0 and writes what it gives, or it returns its refusal's number and writes nothing but a receipt of it.
 pub mod day_sheet;
+pub mod registered;
 
 use calls::Call;
 use memory::lent::change_on;

@@ -1,9 +1,10 @@
 -- Document 01, 'Edges': the starred ones and the worked day, with what document 02 (a) makes of one, the answers that 02 (b) changes, pools whose
--- tokens carry charges (02 (c)), withdrawals about the locked 100 (02 (e)), and the ring's spacing and length (02 (f)), in one table. Each row is an
--- opening, what is asked of its pool, and what must come out.
-use Prim.Native.Nat.{ℕ, _+_}
+-- tokens carry charges (02 (c)), withdrawals about the locked 100 (02 (e)), the ring's spacing and length (02 (f)), and calls with a register
+-- (02 (g)), in one table. Each row is an opening, what is asked of its pool, and what must come out.
+use Prim.Native.Nat.{ℕ, _+_, _-_}
 use mathlib.Core.Path.{_≡_}
-use mathlib.Core.List.{List, [], _∷_}
+use mathlib.Core.List.{List, [], _∷_, _++_}
+use lib.ListN.{length, getD, replicate}
 use Rattle.refusal.specs.Tests.{U64}
 use Rattle.rates.specs.declared.Rates.{Rates}
 use Rattle.charge.specs.declared.Charges.{Charges}
@@ -12,18 +13,26 @@ use Rattle.oracle.specs.declared.Grid.{Grid}
 use Rattle.oracle.specs.Ring.{entryAt}
 use Rattle.curve.specs.declared.constant_product.LpTokens.{LpTokens}
 use Rattle.curve.specs.ConstantProduct.{tokens}
+use Rattle.register.specs.declared.Holder.{Holder}
+use Rattle.register.specs.Holders.{zeroHolder}
 use Rattle.pool.specs.State.{Done, net0, net1}
 use Rattle.opening.specs.declared.Opening.{Opening}
 use Rattle.pool.specs.Calls.{opening}
 use Rattle.calls.specs.declared.Call.{Call}
 use Rattle.calls.specs.declared.Call.the-variants.{SwapBaseInput, SwapBaseOutput, Deposit, Withdraw, SetStatus}
 use Rattle.calls.specs.Next.{State, left, next}
+use Rattle.calls.specs.Registered.{Registered, deposit, withdraw, Entered, nextWith, openingWith}
 use Rattle.sheet.specs.Sheet.{dayGrid}
 
 pub data Asked : Type 0 where
   itself : Asked
   -- a call after others
   following : List Call → Call → Asked
+  -- the opening itself by a holder of a register; a deposit or a withdrawal with the register after others
+  itselfWith : List Holder → ℕ → Asked
+  followingWith : List Holder → ℕ → List Registered → Registered → Asked
+  -- one on a list made by hand, after calls without a register
+  onList : List Holder → List Call → Registered → Asked
 
 abbrev call : Call → Asked
 call c = following [] c
@@ -55,6 +64,10 @@ pub data Field : Type 0 where
   clockAt : ℕ → Field
   sum0At : ℕ → Field
   sum1At : ℕ → Field
+  -- of the register: its length, and an entry's number and balance
+  holdersCount : Field
+  holderAt : ℕ → Field
+  balanceAt : ℕ → Field
 
 pub record Edge : Type 0 where
   pub opens : Opening
@@ -67,37 +80,55 @@ abbrev pub pointAfter : State → List Call → State
 pointAfter s [] = s
 pointAfter s (c ∷ cs) = pointAfter (left (next s c)) cs
 
-abbrev pub answer : Opening → Asked → Done
-answer o itself = opening o
-answer o (following before c) = next (pointAfter (left (opening o)) before) c
+-- a call without a register has no list
+abbrev pub without : Done → Entered
+without d = record { given = d; holders = [] }
 
-abbrev pub shown : Field → Done → ℕ
-shown number d = d .after .receipt .number
-shown paidIn0 d = d .after .receipt .paid .in0
-shown paidIn1 d = d .after .receipt .paid .in1
-shown paidOut0 d = d .after .receipt .paid .out0
-shown paidOut1 d = d .after .receipt .paid .out1
-shown charge0 d = d .after .receipt .charged .charge0
-shown charge1 d = d .after .receipt .charged .charge1
-shown tradeFee d = d .after .receipt .trade .«trade_fee»
-shown protocolFee d = d .after .receipt .trade .«protocol_fee»
-shown fundFee d = d .after .receipt .trade .«fund_fee»
-shown creatorFee d = d .after .receipt .trade .«creator_fee»
+-- one with a register gets pool, ring and list as the one before left them
+abbrev pub enteredAt : Entered → Registered → Entered
+enteredAt e c = nextWith (left (e .given)) (e .holders) c
+
+abbrev pub enteredAfter : Entered → List Registered → Entered
+enteredAfter e [] = e
+enteredAfter e (c ∷ cs) = enteredAfter (enteredAt e c) cs
+
+abbrev pub answer : Opening → Asked → Entered
+answer o itself = without (opening o)
+answer o (following before c) = without (next (pointAfter (left (opening o)) before) c)
+answer o (itselfWith es holder) = openingWith o es holder
+answer o (followingWith es holder before c) = enteredAt (enteredAfter (openingWith o es holder) before) c
+answer o (onList es before c) = nextWith (pointAfter (left (opening o)) before) es c
+
+abbrev pub shown : Field → Entered → ℕ
+shown number e = e .given .after .receipt .number
+shown paidIn0 e = e .given .after .receipt .paid .in0
+shown paidIn1 e = e .given .after .receipt .paid .in1
+shown paidOut0 e = e .given .after .receipt .paid .out0
+shown paidOut1 e = e .given .after .receipt .paid .out1
+shown charge0 e = e .given .after .receipt .charged .charge0
+shown charge1 e = e .given .after .receipt .charged .charge1
+shown tradeFee e = e .given .after .receipt .trade .«trade_fee»
+shown protocolFee e = e .given .after .receipt .trade .«protocol_fee»
+shown fundFee e = e .given .after .receipt .trade .«fund_fee»
+shown creatorFee e = e .given .after .receipt .trade .«creator_fee»
 -- what the curve gave, a creator fee on the output not yet taken
-shown fromCurve1 d = d .after .receipt .paid .out1 + d .after .receipt .trade .«creator_fee»
-shown netAfter0 d = net0 (d .after .pool)
-shown netAfter1 d = net1 (d .after .pool)
-shown supplyAfter d = d .after .pool .books .supply
-shown ringIndex d = d .after .pool .ring .index
-shown ringMark d = d .after .pool .ring .mark
-shown (clockAt i) d = entryAt (d .entries) i .clock
-shown (sum0At i) d = entryAt (d .entries) i .sum0
-shown (sum1At i) d = entryAt (d .entries) i .sum1
+shown fromCurve1 e = e .given .after .receipt .paid .out1 + e .given .after .receipt .trade .«creator_fee»
+shown netAfter0 e = net0 (e .given .after .pool)
+shown netAfter1 e = net1 (e .given .after .pool)
+shown supplyAfter e = e .given .after .pool .books .supply
+shown ringIndex e = e .given .after .pool .ring .index
+shown ringMark e = e .given .after .pool .ring .mark
+shown (clockAt i) e = entryAt (e .given .entries) i .clock
+shown (sum0At i) e = entryAt (e .given .entries) i .sum0
+shown (sum1At i) e = entryAt (e .given .entries) i .sum1
+shown holdersCount e = length (e .holders)
+shown (holderAt i) e = getD (e .holders) i zeroHolder .number
+shown (balanceAt i) e = getD (e .holders) i zeroHolder .balance
 
 -- what a row's fields show, and what they must show
-abbrev pub found : Done → List (Field × ℕ) → List ℕ
-found d [] = []
-found d (f ∷ fs) = shown (f .0) d ∷ found d fs
+abbrev pub found : Entered → List (Field × ℕ) → List ℕ
+found e [] = []
+found e (f ∷ fs) = shown (f .0) e ∷ found e fs
 
 abbrev pub wanted : List (Field × ℕ) → List ℕ
 wanted [] = []
@@ -168,6 +199,65 @@ workedSwap clock = SwapBaseInput 0 10000 1 clock
 
 abbrev lp : ℕ → LpTokens
 lp n = record { 0 = n }
+
+-- an entry of a register; a list of n entries of zeros
+abbrev holder : ℕ → ℕ → Holder
+holder k balance = record { number = k; balance = balance }
+
+abbrev fresh : ℕ → List Holder
+fresh n = replicate n zeroHolder
+
+-- a deposit and a withdrawal of so much LP by a holder, whatever it costs or gives
+abbrev deposits : ℕ → ℕ → Registered
+deposits amount k = deposit k amount U64 U64
+
+abbrev withdraws : ℕ → ℕ → Registered
+withdraws amount k = withdraw k amount 0 0
+
+-- the worked opening by holder 7 on a list of 3, and then calls in turn
+abbrev turn : List Registered → Registered → Asked
+turn before c = followingWith (fresh 3) 7 before c
+
+-- what the three entries hold
+abbrev three : ℕ → Holder → Holder → Holder → List (Field × ℕ)
+three n a b c =
+    (number, n)
+    ∷ (holdersCount, 3)
+    ∷ (holderAt 0, a .number)
+    ∷ (balanceAt 0, a .balance)
+    ∷ (holderAt 1, b .number)
+    ∷ (balanceAt 1, b .balance)
+    ∷ (holderAt 2, c .number)
+    ∷ (balanceAt 2, c .balance)
+    ∷ []
+
+-- the first calls of the worked example, one to nine, those that are refused among them
+abbrev turns1 : List Registered
+turns1 = deposits 1000 8 ∷ []
+
+abbrev turns2 : List Registered
+turns2 = turns1 ++ (deposits 500 9 ∷ [])
+
+abbrev turns3 : List Registered
+turns3 = turns2 ++ (deposits 500 10 ∷ [])
+
+abbrev turns4 : List Registered
+turns4 = turns3 ++ (withdraws 1000 8 ∷ [])
+
+abbrev turns5 : List Registered
+turns5 = turns4 ++ (withdraws 1 8 ∷ [])
+
+abbrev turns6 : List Registered
+turns6 = turns5 ++ (deposits 500 10 ∷ [])
+
+abbrev turns7 : List Registered
+turns7 = turns6 ++ (deposits 5 8 ∷ [])
+
+abbrev turns8 : List Registered
+turns8 = turns7 ++ (withdraws 500 10 ∷ [])
+
+abbrev turns9 : List Registered
+turns9 = turns8 ++ (deposits 5 8 ∷ [])
 
 abbrev edge : Opening → Asked → List (Field × ℕ) → Edge
 edge o a out = record { opens = o; asked = a; out = out }
@@ -265,6 +355,54 @@ edges =
     ((number, 0) ∷ (ringIndex, 0) ∷ (clockAt 0, 130) ∷ (sum0At 0, 500333209695) ∷ (sum1At 0, 33185237895) ∷ (clockAt 1, 115) ∷ (clockAt 2, 0) ∷ [])
     ∷ edge (spaced 1 2) (following (workedSwap 100 ∷ workedSwap 101 ∷ []) (workedSwap 102))
     ((number, 0) ∷ (ringIndex, 0) ∷ (clockAt 0, 102) ∷ (sum0At 0, 33355547313) ∷ (sum1At 0, 2212349193) ∷ (clockAt 1, 101) ∷ (clockAt 2, 0) ∷ [])
+    -- the register of holders (02 (g)), its worked example: the opener is entered first, with the supply less the locked 100
+    ∷ edge worked (itselfWith (fresh 3) 7) ((supplyAfter, 2000000) ∷ three 0 (holder 7 1999900) zeroHolder zeroHolder)
+    ∷ edge worked (turn [] (deposits 1000 8)) ((supplyAfter, 2001000) ∷ three 0 (holder 7 1999900) (holder 8 1000) zeroHolder)
+    ∷ edge worked (turn turns1 (deposits 500 9)) ((supplyAfter, 2001500) ∷ three 0 (holder 7 1999900) (holder 8 1000) (holder 9 500))
+    -- every entry has a balance, and holder 10 is new: 16
+    ∷ edge worked (turn turns2 (deposits 500 10)) ((supplyAfter, 2001500) ∷ three 16 (holder 7 1999900) (holder 8 1000) (holder 9 500))
+    -- an entry whose balance falls to 0 keeps its number, and is free for anyone
+    ∷ edge worked (turn turns3 (withdraws 1000 8)) ((supplyAfter, 2000500) ∷ three 0 (holder 7 1999900) (holder 8 0) (holder 9 500))
+    ∷ edge worked (turn turns4 (withdraws 1 8)) ((supplyAfter, 2000500) ∷ three 10 (holder 7 1999900) (holder 8 0) (holder 9 500))
+    ∷ edge worked (turn turns5 (deposits 500 10)) ((supplyAfter, 2001000) ∷ three 0 (holder 7 1999900) (holder 10 500) (holder 9 500))
+    ∷ edge worked (turn turns6 (deposits 5 8)) ((supplyAfter, 2001000) ∷ three 16 (holder 7 1999900) (holder 10 500) (holder 9 500))
+    ∷ edge worked (turn turns7 (withdraws 500 10)) ((supplyAfter, 2000500) ∷ three 0 (holder 7 1999900) (holder 10 0) (holder 9 500))
+    ∷ edge worked (turn turns8 (deposits 5 8)) ((supplyAfter, 2000505) ∷ three 0 (holder 7 1999900) (holder 8 5) (holder 9 500))
+    ∷ edge worked (turn turns9 (withdraws 5 0)) ((supplyAfter, 2000505) ∷ three 3 (holder 7 1999900) (holder 8 5) (holder 9 500))
+    -- a holder's entry is the one with his balance, whatever is free before it; a new one takes the first entry of balance 0, not the one of his number
+    ∷ edge worked (onList (holder 7 0 ∷ holder 8 0 ∷ holder 7 5 ∷ []) [] (deposits 500 7)) (three 0 (holder 7 0) (holder 8 0) (holder 7 505))
+    ∷ edge worked (onList (holder 8 0 ∷ holder 8 5 ∷ holder 9 1 ∷ []) [] (withdraws 5 8)) (three 0 (holder 8 0) (holder 8 0) (holder 9 1))
+    ∷ edge worked (onList (holder 7 5 ∷ holder 9 0 ∷ holder 8 0 ∷ []) [] (deposits 500 8)) (three 0 (holder 7 5) (holder 8 500) (holder 8 0))
+    -- no entry, 1, 256 and 257: 3 for none and for more than 256
+    ∷ edge worked (onList [] [] (deposits 500 8)) ((number, 3) ∷ (holdersCount, 0) ∷ [])
+    ∷ edge worked (onList (fresh 1) [] (deposits 500 8)) ((number, 0) ∷ (holdersCount, 1) ∷ (holderAt 0, 8) ∷ (balanceAt 0, 500) ∷ [])
+    ∷ edge worked (onList (fresh 255 ++ (holder 8 1 ∷ [])) [] (deposits 500 8))
+    ((number, 0) ∷ (holdersCount, 256) ∷ (holderAt 0, 0) ∷ (holderAt 255, 8) ∷ (balanceAt 255, 501) ∷ [])
+    ∷ edge worked (onList (fresh 257) [] (deposits 500 8)) ((number, 3) ∷ (holdersCount, 257) ∷ (balanceAt 0, 0) ∷ [])
+    -- a number 0 or a number twice is 3 only among entries with a balance; a holder 0 is 3
+    ∷ edge worked (onList (holder 0 1 ∷ zeroHolder ∷ zeroHolder ∷ []) [] (deposits 500 8)) (three 3 (holder 0 1) zeroHolder zeroHolder)
+    ∷ edge worked (onList (holder 9 1 ∷ holder 9 1 ∷ zeroHolder ∷ []) [] (deposits 500 8)) (three 3 (holder 9 1) (holder 9 1) zeroHolder)
+    ∷ edge worked (onList (holder 9 1 ∷ holder 9 0 ∷ zeroHolder ∷ []) [] (deposits 500 8)) (three 0 (holder 9 1) (holder 8 500) zeroHolder)
+    ∷ edge worked (onList (holder 9 1 ∷ holder 9 1 ∷ holder 8 5 ∷ []) [] (withdraws 5 8)) (three 3 (holder 9 1) (holder 9 1) (holder 8 5))
+    ∷ edge worked (onList (fresh 1) [] (deposits 500 0)) ((number, 3) ∷ [])
+    -- 3 first: before closed, and before an opening's own 6; its old entries are tested too
+    ∷ edge worked (onList [] (SetStatus 0 1 ∷ []) (deposits 0 8)) ((number, 3) ∷ [])
+    ∷ edge worked (onList (fresh 1) (SetStatus 1 1 ∷ []) (withdraws 1 0)) ((number, 3) ∷ [])
+    ∷ edge (square 0) (itselfWith (holder 9 1 ∷ holder 9 1 ∷ zeroHolder ∷ []) 7) (three 3 (holder 9 1) (holder 9 1) zeroHolder)
+    ∷ edge worked (itselfWith (fresh 1) 0) ((number, 3) ∷ (holdersCount, 1) ∷ (balanceAt 0, 0) ∷ [])
+    ∷ edge worked (itselfWith [] 7) ((number, 3) ∷ [])
+    ∷ edge worked (itselfWith (fresh 257) 7) ((number, 3) ∷ (balanceAt 0, 0) ∷ [])
+    -- an opening's own tests leave the old entries; accepted, it clears them
+    ∷ edge (square 100) (itselfWith (holder 9 1 ∷ []) 7) ((number, 13) ∷ (holderAt 0, 9) ∷ (balanceAt 0, 1) ∷ [])
+    ∷ edge worked (itselfWith (holder 9 1 ∷ holder 8 1 ∷ holder 9 0 ∷ []) 7) (three 0 (holder 7 1999900) zeroHolder zeroHolder)
+    -- then the call's own tests: closed before 10 and before the credit's 8, 10 for one without an entry, a vault's 8 before 16
+    ∷ edge worked (onList (fresh 1) (SetStatus 1 1 ∷ []) (withdraws 1 8)) ((number, 1) ∷ [])
+    ∷ edge worked (onList (holder 8 U64 ∷ []) (SetStatus 0 1 ∷ []) (deposits 500 8)) ((number, 1) ∷ [])
+    ∷ edge worked (onList (fresh 1) [] (withdraws 1 8)) ((number, 10) ∷ [])
+    ∷ edge (square U64) (onList (holder 9 1 ∷ []) [] (deposits 1000000 8)) ((number, 8) ∷ (holderAt 0, 9) ∷ [])
+    -- a balance may reach 2^64 − 1 and not pass it, 8
+    ∷ edge worked (onList (holder 8 (U64 - 500) ∷ []) [] (deposits 500 8)) ((number, 0) ∷ (balanceAt 0, U64) ∷ [])
+    ∷ edge worked (onList (holder 8 (U64 - 499) ∷ []) [] (deposits 500 8)) ((number, 8) ∷ (balanceAt 0, U64 - 499) ∷ (supplyAfter, 2000000) ∷ [])
     ∷ []
 
 -- what comes out is what must, in every row

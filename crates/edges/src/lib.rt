@@ -11,9 +11,9 @@ ghost use mathlib.Core.Bool.{true};
 ghost use mathlib.Core.Path.{_≡_};
 ghost use lib.ListN.{length};
 
-// Every one of the table's 60 rows comes out as document 01 has it, with document 02 (a), (b), (c), (e) and (f) (specs/Edges.antt).
+// Every one of the table's 97 rows comes out as document 01 has it, with document 02 (a), (b), (c), (e), (f) and (g) (specs/Edges.antt).
 pub fn edges_hold() -> bool
-    ensures { λ r. ⌜ (r ≡ true) × (length edges ≡ 60) × EdgesHold ⌝ }
+    ensures { λ r. ⌜ (r ≡ true) × (length edges ≡ 97) × EdgesHold ⌝ }
 {
     true
 }

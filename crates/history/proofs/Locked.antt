@@ -21,9 +21,11 @@ use Rattle.pool.specs.Calls.{opening}
 use Rattle.calls.specs.declared.Call.{Call}
 use Rattle.calls.specs.declared.Call.the-variants.{SwapBaseInput, SwapBaseOutput, Deposit, Withdraw, Settle, SetStatus}
 use Rattle.calls.specs.Next.{State, next, left}
+use Rattle.calls.specs.Registered.{withoutRegister}
 use Rattle.calls.proofs.Decisions.{decision, openingDecision, testsOf, acceptedOf, refusedAt, call-decides}
+use Rattle.calls.proofs.Entries.{entered-given}
 use Rattle.calls.proofs.Refusals.{opening-number-tells}
-use Rattle.history.specs.Run.{call, Ran, stop, step}
+use Rattle.history.specs.Run.{Step, call, registered, taken, Ran, stop, step}
 use Rattle.history.specs.Demand3.{product, supply²}
 use Rattle.history.proofs.Products.{above-floor}
 
@@ -47,10 +49,15 @@ call-locked s c h =
     rw (call-decides s c .by-tests)
     (outcome-elim (λ (d : Done). Locked (left d)) (testsOf s c) (refusedAt s) (acceptedOf s c) (λ n. h) (accepted-locked s c h))
 
+step-locked : (s : State) (a : Step) → Locked s → Locked (left (taken s a))
+unfolding refused
+step-locked s (call c) h = call-locked s c h
+step-locked s (registered es c) h = entered-given s es c (λ (d : Done). Locked (left d)) (λ n. h) (call-locked s (withoutRegister es c) h)
+
 -- ---- a run
 pub run-locked : {s s′ : State} {xs : List Receipt} → Ran s xs s′ → Locked s → Locked s′
 run-locked stop h = h
-run-locked {s} (step (call c) d e rest) h = run-locked rest (rw e (call-locked s c h))
+run-locked {s} (step a d e rest) h = run-locked rest (rw e (step-locked s a h))
 
 -- ---- the start: the opener gets at least one LP besides
 pub opening-locked : (o : Opening) → opening o .after .receipt .number ≡ 0 → Locked (left (opening o))

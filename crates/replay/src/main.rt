@@ -4,6 +4,7 @@ mod alone;
 mod count;
 mod on_pool;
 mod reading;
+mod registered;
 mod ring;
 mod row;
 
@@ -27,6 +28,7 @@ fn agrees(row: &[u64; ROW_NUMBERS]) -> bool {
         33 => alone::booking(row),
         34 => alone::fee_side(row),
         36 => ring::update(row),
+        40 | 41 | 44 | 45 => registered::agrees(row),
         _ => false,
     }
 }

@@ -1,8 +1,10 @@
 // The calls: kinds 1 to 7.
 use crate::ring::ring_agrees;
 use crate::ring::ring_at;
+use crate::ring::same_ring;
 use crate::row::ROW_NUMBERS;
 use crate::row::nth;
+use crate::row::opening_in;
 use crate::row::pool_at;
 use calls::Call;
 use calls::apply;
@@ -16,12 +18,24 @@ use receipt::SETTLE_CREATOR_FEE;
 use receipt::SWAP_BASE_INPUT;
 use receipt::SWAP_BASE_OUTPUT;
 use receipt::WITHDRAW;
+use words::POOL_WORDS;
 use words::RECEIPT_WORDS;
-use words::opening_of;
 use words::pool_words;
 use words::receipt_words;
 use words::stand_at;
 ghost use Prim.Native.Nat.{_≤_};
+
+// Receipt and pool, as numbers, from a place on.
+pub(crate) fn numbers_agree(
+    receipt: &[u64; RECEIPT_WORDS],
+    record: &[u64; POOL_WORDS],
+    row: &[u64; ROW_NUMBERS],
+    at: usize,
+) -> bool
+    requires { ⌜ at ≤ 60 ⌝ }
+{
+    stand_at(receipt, row, at) & stand_at(record, row, at + RECEIPT_WORDS)
+}
 
 // Receipt and pool from a place on.
 fn after_agrees(after: After, row: &[u64; ROW_NUMBERS], at: usize) -> bool
@@ -29,33 +43,15 @@ fn after_agrees(after: After, row: &[u64; ROW_NUMBERS], at: usize) -> bool
 {
     let pool = after.pool;
     let receipt = after.receipt;
-    stand_at(&receipt_words(receipt), row, at)
-        & stand_at(&pool_words(pool), row, at + RECEIPT_WORDS)
+    numbers_agree(&receipt_words(receipt), &pool_words(pool), row, at)
 }
 
 // An opening's ring is one number throughout, which the row gives last.
 pub(crate) fn opening(row: &[u64; ROW_NUMBERS]) -> bool {
-    let opened = Pool::open(opening_of([
-        nth(row, 2),
-        nth(row, 3),
-        nth(row, 4),
-        nth(row, 5),
-        nth(row, 6),
-        nth(row, 7),
-        nth(row, 8),
-        nth(row, 9),
-        nth(row, 10),
-        nth(row, 11),
-        nth(row, 12),
-        nth(row, 13),
-        nth(row, 14),
-        nth(row, 15),
-        nth(row, 16),
-        nth(row, 17),
-    ]));
+    let opened = Pool::open(opening_in(row));
     let entries = opened.entries;
     let expected = [nth(row, 63); RING_WORDS];
-    stand_at(&entries, &expected, 0) & after_agrees(opened.after, row, 18)
+    same_ring(&entries, expected) & after_agrees(opened.after, row, 18)
 }
 
 // The row's call, of four arguments; those that it lacks are 0.

@@ -9,12 +9,17 @@ use words::stand_at;
 ghost use Prim.Native.Nat.{_≤_, _<_};
 
 // Entries with 10,000 + w at each place w.
-fn filled() -> [u64; RING_WORDS] {
+pub(crate) fn filled() -> [u64; RING_WORDS] {
     let mut out = [0u64; RING_WORDS];
     for w in 0..RING_WORDS {
         out[w] = 10000 + w as u64;
     }
     out
+}
+
+// Whether the ring's entries are these.
+pub(crate) fn same_ring(entries: &[u64; RING_WORDS], expected: [u64; RING_WORDS]) -> bool {
+    stand_at(entries, &expected, 0)
 }
 
 // The entries with five numbers of a row as the entry at an index that the row gives, if there is such an index.
@@ -56,8 +61,7 @@ pub(crate) fn ring_agrees(
 ) -> bool
     requires { ⌜ («index_at» < 88) × (at ≤ 83) ⌝ }
 {
-    let expected = with_entry(before, row, index_at, at);
-    stand_at(entries, &expected, 0)
+    same_ring(entries, with_entry(before, row, index_at, at))
 }
 
 // What `Ring::update` gives: number, used, index, mark, spacing, length.

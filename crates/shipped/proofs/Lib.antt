@@ -3,6 +3,7 @@ pub mod Rows
 pub mod Printed
 pub mod Day
 pub mod Holding
+pub mod Registers
 pub mod Library
 pub mod DayMemory
 pub mod Pieces

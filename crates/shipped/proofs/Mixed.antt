@@ -1,4 +1,4 @@
--- Calls, openings and day sheets mixed in any order on one memory.
+-- Calls and openings, without a register and with one, and day sheets mixed in any order on one memory.
 -- Assumes nothing.
 use Prim.Native.Nat.{ℕ, zero, suc, _≤_}
 use mathlib.Core.Path.{_≡_, refl, sym, ap, subst, _∙_}
@@ -10,27 +10,35 @@ use lib.Dec.{eqb}
 use lib.ListN.{length, take, drop}
 use Rattle.refusal.specs.Tests.{U64}
 use Rattle.receipt.specs.declared.Receipt.{Receipt}
+use Rattle.register.specs.Numbers.{entriesOf}
+use Rattle.opening.specs.declared.Opening.{Opening}
+use Rattle.pool.specs.State.{Done}
 use Rattle.pool.specs.Calls.{zeroPool, zeroEntries, opening as opens-pool}
 use Rattle.calls.specs.Next.{State}
+use Rattle.calls.specs.Registered.{Entered, openingWith}
 use Rattle.calls.proofs.Decisions.{zeroState, numberOf}
+use Rattle.calls.proofs.Entries.{opened-tells}
+use Rattle.calls.proofs.Refusals.{opening-number-tells}
 use Rattle.calls.proofs.Within.{BooksFit}
 use Rattle.rows.specs.Row.{readRow}
 use Rattle.history.specs.Afresh.{Reckoning, start}
 use Rattle.history.proofs.Locked.{Locked, opening-locked}
-use Rattle.words.specs.Words.{at, openingOf}
-use Rattle.memory.specs.Memory.{openedOn}
+use Rattle.words.specs.Words.{at, openingOf, receiptOf}
+use Rattle.memory.specs.Memory.{Memory, stored, openedOn}
+use Rattle.register_calls.specs.Lent.{registerOpenedOn}
 use Rattle.sheet.specs.Sheet.{Sheet, perform, run}
 use Rattle.sheet.specs.Turns.{sheetAfter, receiptsOf, stateIn}
 use Rattle.stream.specs.Pieces.{feed, finish, leftBy, leftAtEnd}
 use Rattle.cp_swap.specs.DaySheet.{storedPiece, fedOn, storedEnd, endedOn}
 use Rattle.shipped.specs.Openings.{reckonAll, noOpening, Went, stop, calls, opens, stays}
-use Rattle.shipped.specs.Library.{pointIn, answered}
+use Rattle.shipped.specs.Library.{answered}
 use Rattle.shipped.specs.Written.{stateAfter, ShowsRows}
-use Rattle.shipped.specs.Mixed.{Lent, Use, call, opening, piece, end, openedIn, fedIn, endedIn, used, usedAll, begunIn, rowsOf, sheetHeld, sheetOf, writtenBy, receiptsBy, pointHere, pointsOf, pointsBy, receiptsByAll, pointsByAll, pointAt, HoldsMixed, RowPoints, Zeros, MixedTheorem}
+use Rattle.shipped.specs.Mixed.{Lent, Use, call, opening, registered, openingBy, piece, end, openedIn, openedByIn, fedIn, endedIn, byCall, used, usedAll, begunIn, rowsOf, sheetHeld, sheetOf, writtenBy, receiptsBy, pointHere, pointsOf, pointsBy, receiptsByAll, pointsByAll, pointAt, HoldsMixed, RowPoints, Zeros, MixedTheorem}
 use Rattle.shipped.proofs.Went.{went-on, SoundAt, zeros-sound, opening-counted, opening-sound, went-sound, went-locked, holds-along}
 use Rattle.shipped.proofs.Rows.{one-row-went}
 use Rattle.shipped.proofs.Printed.{rows-show}
-use Rattle.shipped.proofs.Holding.{Holding, holding-point, stored-number, stored-gave, refused-stays, opened-answer, called-gave, front-written, fed-on, ended-on}
+use Rattle.shipped.proofs.Holding.{Holding, holding-point, reads-at, stored-number, stored-gave, refused-stays, given-answer, called-gave, front-written, fed-on, ended-on}
+use Rattle.shipped.proofs.Registers.{plain, stored-plain, stored-accepted, registered-gave, registered-went}
 use Rattle.shipped.proofs.Pieces.{Answers, piece-answers, end-answers}
 
 -- the record is read as the pool that it was made of
@@ -90,9 +98,6 @@ record Goes (m : Lent) (xs : List Receipt) (ps : List State) (n : Lent) : Type 0
   reads : Reads n
   walk : Walk (pointHere m) xs ps (pointHere n)
 
-reads-at : (pool entries : List ℕ) {s : State} → Holding pool entries s → Holding pool entries (pointIn pool entries)
-reads-at pool entries h = rw (holding-point h) h
-
 -- one answer, and the point after it
 one-answer :
     (m n : Lent) {x y : Receipt} (s : State) → Holding (n .pool) (n .entries) s → x ≡ y → Went (pointHere m) (y ∷ []) s
@@ -100,6 +105,30 @@ one-answer :
 one-answer m n {x} s h e w =
     let step : Went (pointHere m) (x ∷ []) (pointHere n) = rw (holding-point h, e) w in
     record { reads = reads-at (n .pool) (n .entries) h; walk = more step none }
+
+-- ---- an opening with a register
+module _ (m : Lent) (w holders : List ℕ) (holder : ℕ) where
+  abbrev by : Entered
+  by = openingWith (openingOf w) (entriesOf holders) holder
+
+  by-is-opening : numberOf (by .given) ≡ 0 → by .given ≡ opens-pool (openingOf w)
+  by-is-opening z = opened-tells (openingOf w) (entriesOf holders) holder .where-accepted z .given
+
+  opened-by : plain (openedByIn m w holders holder) ≡ stored (m .pool) (m .entries) (m .receipt) (by .given)
+  unfolding registerOpenedOn
+  opened-by = stored-plain (m .pool) (m .entries) (m .receipt) holders by
+
+  by-answers : receiptOf (openedByIn m w holders holder .receipt) ≡ by .given .after .receipt
+  by-answers =
+      ap answered opened-by
+      ∙ given-answer (m .pool) (m .entries) (m .receipt) (by .given) (λ f. opened-tells (openingOf w) (entriesOf holders) holder .where-refused f .all .zeros)
+
+  -- accepted it is the opening without one
+  by-same : openedByIn m w holders holder .number ≡ 0 → plain (openedByIn m w holders holder) ≡ openedIn m w
+  unfolding openedOn registerOpenedOn
+  by-same z =
+      opened-by
+      ∙ ap (stored (m .pool) (m .entries) (m .receipt)) (by-is-opening (stored-accepted (m .pool) (m .entries) (m .receipt) holders by z))
 
 -- ---- each use
 module _ (m : Lent) (h : Reads m) where
@@ -129,27 +158,37 @@ module _ (m : Lent) (h : Reads m) where
 
   opening-answers : (w : List ℕ) → answered (openedIn m w) ≡ opens-pool (openingOf w) .after .receipt
   unfolding openedOn
-  opening-answers w = opened-answer (m .pool) (m .entries) (m .receipt) (openingOf w)
+  opening-answers w = given-answer (m .pool) (m .entries) (m .receipt) _ (λ f. opening-number-tells (openingOf w) .where-refused f .zeros)
 
-  opening-goes : (w : List ℕ) → Goes m (receiptsBy m (opening w)) (pointsBy m (opening w)) (used m (opening w))
-  unfolding used receiptsBy pointsBy openedOn
-  opening-goes w = go (eqb (numberOf (opens-pool (openingOf w))) 0) refl
+  -- one answer leaves that memory
+  abbrev GoesTo : Memory → Type 0
+  GoesTo n = Goes m (answered n ∷ []) (pointHere (byCall n) ∷ []) (byCall n)
+
+  -- what is given is the opening's where it is accepted
+  opened-goes : (o : Opening) (d : Done) → (numberOf d ≡ 0 → d ≡ opens-pool o) → GoesTo (stored (m .pool) (m .entries) (m .receipt) d)
+  opened-goes o d is = go (eqb (numberOf d) 0) refl
     where
-      go :
-          (q : Bool) → eqb (numberOf (opens-pool (openingOf w))) 0 ≡ q
-          → Goes m (receiptsBy m (opening w)) (pointsBy m (opening w)) (used m (opening w))
+      go : (q : Bool) → eqb (numberOf d) 0 ≡ q → GoesTo (stored (m .pool) (m .entries) (m .receipt) d)
       go true z =
           let accepted = eqb-true _ _ z in
-          let g = stored-gave (m .pool) (m .entries) (m .receipt) (opens-pool (openingOf w)) accepted in
-          one-answer m _ _ (g .point) (g .answer) (opens (openingOf w) accepted stop)
+          let g = stored-gave (m .pool) (m .entries) (m .receipt) d accepted in
+          one-answer m _ _ (g .point) (g .answer) (rw (is accepted) (opens o (rw (is accepted) at accepted) stop))
       go false z =
-          let k = refused-stays (m .pool) (m .entries) (m .receipt) (opens-pool (openingOf w)) (eqb-false _ _ z) (pointHere m) h in
+          let k = refused-stays (m .pool) (m .entries) (m .receipt) d (eqb-false _ _ z) (pointHere m) h in
           one-answer m _ _ (k .0) (k .1) (stays _ stop)
 
+  opening-by-goes : (w holders : List ℕ) (holder : ℕ) → GoesTo (plain (openedByIn m w holders holder))
+  opening-by-goes w holders holder =
+      subst GoesTo (sym (opened-by m w holders holder)) (opened-goes (openingOf w) _ (by-is-opening m w holders holder))
+
   use-goes : (u : Use) → Goes m (receiptsBy m u) (pointsBy m u) (used m u)
-  unfolding used receiptsBy pointsBy storedPiece leftBy storedEnd leftAtEnd
+  unfolding used receiptsBy pointsBy openedOn storedPiece leftBy storedEnd leftAtEnd
   use-goes (call c) = let g = called-gave _ _ (m .receipt) (pointHere m) c h in one-answer m _ _ (g .point) (g .answer) (calls c stop)
-  use-goes (opening w) = opening-goes w
+  use-goes (opening w) = opened-goes (openingOf w) (opens-pool (openingOf w)) (λ z. refl)
+  use-goes (registered holders c) =
+      let g = registered-gave _ _ (m .receipt) holders (pointHere m) c h in
+      one-answer m _ _ (g .point) (g .answer) (registered-went (pointHere m) (entriesOf holders) c)
+  use-goes (openingBy w holders holder) = opening-by-goes w holders holder
   use-goes (piece sheet held input output progress) =
       rows-go sheet _ (piece-answers (length output) (sheetHeld m sheet) (begunIn sheet held) input)
       (rw (fed-here sheet held input output progress) (record { words = refl; ring = refl }))
@@ -161,6 +200,8 @@ module _ (m : Lent) (h : Reads m) where
   unfolding run storedPiece leftBy storedEnd leftAtEnd
   use-writes (call c) = refl
   use-writes (opening w) = refl
+  use-writes (registered holders c) = refl
+  use-writes (openingBy w holders holder) = refl
   use-writes (piece sheet held input output progress) =
       rw (fed-here sheet held input output progress)
       (front-written output _ ∙ piece-answers (length output) (sheetHeld m sheet) (begunIn sheet held) input .rows)
@@ -170,6 +211,8 @@ module _ (m : Lent) (h : Reads m) where
   books-fit : (u : Use) → ((i : ℕ) → at (m .pool) i ≤ U64) → BooksFit (sheetOf m u .pool .books)
   books-fit (call c) fits = record { vault0 = fits 0; vault1 = fits 1; supply = fits 8 }
   books-fit (opening w) fits = record { vault0 = fits 0; vault1 = fits 1; supply = fits 8 }
+  books-fit (registered holders c) fits = record { vault0 = fits 0; vault1 = fits 1; supply = fits 8 }
+  books-fit (openingBy w holders holder) fits = record { vault0 = fits 0; vault1 = fits 1; supply = fits 8 }
   books-fit (piece sheet held input output progress) fits = record { vault0 = fits 0; vault1 = fits 1; supply = fits 8 }
   books-fit (end sheet held output progress) fits = record { vault0 = fits 0; vault1 = fits 1; supply = fits 8 }
 
@@ -213,6 +256,8 @@ uses-hold before m us h sound locked = record {
   in-memory = λ k. memory-point k m us h;
   answers-call = λ k c. called-gave _ _ (here k .receipt) (pointHere (here k)) c (reads k) .answer;
   answers-opening = λ k w. opening-answers (here k) (reads k) w;
+  answers-registered = λ k holders c. registered-gave _ _ (here k .receipt) holders (pointHere (here k)) c (reads k) .answer;
+  answers-opening-by = λ k w holders holder. by-answers (here k) w holders holder;
   writes = λ k u. use-writes (here k) (reads k) u;
   shows = λ k u fits. use-shows (here k) (reads k) u fits;
 }
@@ -226,7 +271,7 @@ uses-hold before m us h sound locked = record {
     reads : (k : ℕ) → Reads (here k)
     reads k = uses-go m (take k us) h .reads
 
--- ---- the two beginnings
+-- ---- the three beginnings
 zeros-held : (m : Lent) → Zeros m → Holding (m .pool) (m .entries) zeroState
 unfolding zeroPool zeroEntries
 zeros-held m z = record { words = z .zero-pool; ring = z .zero-ring }
@@ -249,6 +294,15 @@ from-opening m us w z =
     (rw (holding-point (g .point), g .answer, opening-counted (openingOf w) accepted (start 0 0)) (opening-sound (openingOf w) accepted))
     (λ _. subst Locked (sym (holding-point (g .point))) (opening-locked (openingOf w) accepted))
 
+from-opening-by :
+    (m : Lent) (us : List Use) (w holders : List ℕ) (holder : ℕ) → openedByIn m w holders holder .number ≡ 0
+    → HoldsMixed (receiptsBy m (openingBy w holders holder)) (used m (openingBy w holders holder)) us
+unfolding used receiptsBy
+from-opening-by m us w holders holder z =
+    let same = by-same m w holders holder z in
+    subst (λ (n : Memory). HoldsMixed (answered n ∷ []) (byCall n) us) (sym same)
+    (from-opening m us w (sym (ap (λ (n : Memory). n .number) same) ∙ z))
+
 pub mixed-theorem : MixedTheorem
 unfolding MixedTheorem
-mixed-theorem m us = (from-zeros m us, from-opening m us)
+mixed-theorem m us = (from-zeros m us, from-opening m us, from-opening-by m us)

@@ -9,12 +9,16 @@ use lib.ListN.{length, replicate, take, getD}
 use lib.Seq.{take-all}
 use Rattle.refusal.specs.Tests.{first}
 use Rattle.receipt.specs.declared.Receipt.{Receipt}
+use Rattle.register.specs.Numbers.{pairsOf, entriesOf, numbersOf}
 use Rattle.calls.specs.declared.Call.the-variants.{SwapBaseInput}
+use Rattle.calls.specs.Registered.{deposit, withdraw}
 use Rattle.calls.proofs.Unfolded.{all}
+use Rattle.history.specs.Register.{Turn, enters, other}
 use Rattle.history.proofs.NotVacuous.{someCalls}
 use Rattle.columns.specs.Column.{readDigits, inRange, readColumn}
 use Rattle.rows.specs.Row.{rowBytes, readRow, rowsFrom, rows}
 use Rattle.memory.specs.Memory.{Memory, untouched, stored, recordTests, calledOn, openedOn}
+use Rattle.register_calls.specs.Lent.{RegisterMemory, untouchedWith, storedWith, registerCalledOn, registerOpenedOn}
 use Rattle.sheet.specs.Sheet.{emptySheet, keepRates, replaced, perform, daySheet}
 use Rattle.sheet.specs.Turns.{sheetAfter, receiptsOf, asksOpening}
 use Rattle.however_cut.specs.HoweverCut.{fedAll}
@@ -26,7 +30,8 @@ use Rattle.edges.proofs.Example.{example}
 use Rattle.shipped.specs.Openings.{noOpening}
 use Rattle.shipped.specs.Library.{receiptsIn}
 use Rattle.shipped.specs.Day.{receiptsTo, receiptsBetween, Opens, Found}
-use Rattle.shipped.specs.Mixed.{Lent, Use, call, opening, piece, end, used, newlines, receiptsBy, receiptsByAll}
+use Rattle.shipped.specs.Mixed.{Lent, Use, call, opening, registered, openingBy, piece, end, used, newlines, receiptsBy, receiptsByAll}
+use Rattle.shipped.specs.Register.{turnedIn}
 
 abbrev kinds : List Receipt → List ℕ
 kinds xs = map (λ (x : Receipt). x .kind) xs
@@ -45,6 +50,59 @@ opening-accepted = refl
 pub calls-accepted : kinds (receiptsIn someMemory someCalls) ≡ 2 ∷ 3 ∷ 4 ∷ 5 ∷ 6 ∷ 7 ∷ []
 unfolding all untouched stored recordTests calledOn openedOn receiptsIn
 calls-accepted = refl
+
+-- ---- with a register: document 02 (g)'s example on a list of 3, with a swap between; after each call its number and the list
+abbrev someRegister : RegisterMemory
+someRegister = registerOpenedOn (replicate 27 0) (replicate 500 0) (replicate 18 0) (replicate 6 0) (someArguments 1000000 4000000) 7
+
+abbrev told : RegisterMemory → List ℕ
+told m = m .number ∷ m .holders
+
+unfoldable pub toldAll : RegisterMemory → List Turn → List (List ℕ)
+toldAll m [] = []
+toldAll m (t ∷ ts) = told (turnedIn m t) ∷ toldAll (turnedIn m t) ts
+
+abbrev deposits : ℕ → ℕ → Turn
+deposits holder lp = enters (deposit holder lp 10000 10000)
+
+abbrev withdraws : ℕ → ℕ → Turn
+withdraws holder lp = enters (withdraw holder lp 0 0)
+
+unfoldable pub someTurns : List Turn
+someTurns =
+    deposits 8 1000
+    ∷ deposits 9 500
+    ∷ deposits 10 500
+    ∷ withdraws 8 1000
+    ∷ withdraws 8 1
+    ∷ other (SwapBaseInput 0 10000 1 150) refl
+    ∷ deposits 10 500
+    ∷ deposits 8 5
+    ∷ withdraws 10 500
+    ∷ deposits 8 5
+    ∷ withdraws 0 5
+    ∷ []
+
+pub register-opened : told someRegister ≡ 0 ∷ 7 ∷ 1999900 ∷ 0 ∷ 0 ∷ 0 ∷ 0 ∷ []
+unfolding all pairsOf entriesOf numbersOf untouchedWith storedWith registerOpenedOn
+register-opened = refl
+
+pub register-example :
+    toldAll someRegister someTurns
+    ≡ (0 ∷ 7 ∷ 1999900 ∷ 8 ∷ 1000 ∷ 0 ∷ 0 ∷ [])
+    ∷ (0 ∷ 7 ∷ 1999900 ∷ 8 ∷ 1000 ∷ 9 ∷ 500 ∷ [])
+    ∷ (16 ∷ 7 ∷ 1999900 ∷ 8 ∷ 1000 ∷ 9 ∷ 500 ∷ [])
+    ∷ (0 ∷ 7 ∷ 1999900 ∷ 8 ∷ 0 ∷ 9 ∷ 500 ∷ [])
+    ∷ (10 ∷ 7 ∷ 1999900 ∷ 8 ∷ 0 ∷ 9 ∷ 500 ∷ [])
+    ∷ (0 ∷ 7 ∷ 1999900 ∷ 8 ∷ 0 ∷ 9 ∷ 500 ∷ [])
+    ∷ (0 ∷ 7 ∷ 1999900 ∷ 10 ∷ 500 ∷ 9 ∷ 500 ∷ [])
+    ∷ (16 ∷ 7 ∷ 1999900 ∷ 10 ∷ 500 ∷ 9 ∷ 500 ∷ [])
+    ∷ (0 ∷ 7 ∷ 1999900 ∷ 10 ∷ 0 ∷ 9 ∷ 500 ∷ [])
+    ∷ (0 ∷ 7 ∷ 1999900 ∷ 8 ∷ 5 ∷ 9 ∷ 500 ∷ [])
+    ∷ (3 ∷ 7 ∷ 1999900 ∷ 8 ∷ 5 ∷ 9 ∷ 500 ∷ [])
+    ∷ []
+unfolding all untouched stored recordTests calledOn pairsOf entriesOf numbersOf untouchedWith storedWith registerCalledOn registerOpenedOn toldAll someTurns
+register-example = refl
 
 -- ---- the day sheet: document 01's example, whose opening and swap are two points of one opening
 pub one-opening : noOpening (receiptsBetween (rowsOf input) 2 3) ≡ true
@@ -93,17 +151,22 @@ sheet-accepted = refl
 abbrev someRow : List ℕ
 someRow = rowsOf (" 2                   1                5000                   1                 200                   0" ∷ [])
 
--- an opening, a call, another opening over the same memory, the end of a day sheet that holds a row, and a row of another day sheet
+-- an opening, a call, another opening over the same memory, a deposit with a register that no opening made, an opening with a register and a withdrawal
+-- with it, the end of a day sheet that holds a row, and a row of another day sheet
 unfoldable pub someUses : List Use
 someUses =
     opening (someArguments 1000000 4000000)
     ∷ call (SwapBaseInput 0 10000 1 150)
     ∷ opening (someArguments 5000000 2000000)
+    ∷ registered (3 ∷ 400 ∷ []) (deposit 3 1000 10000 10000)
+    ∷ openingBy (someArguments 5000000 2000000) (replicate 6 0) 7
+    ∷ registered (7 ∷ 3162177 ∷ 0 ∷ 0 ∷ 0 ∷ 0 ∷ []) (withdraw 7 1000 0 0)
     ∷ end (0 ∷ 0 ∷ 0 ∷ 0 ∷ 0 ∷ 102 ∷ []) someRow (replicate 103 0) (replicate 2 0)
     ∷ piece (replicate 6 0) (replicate 103 0) someRow (replicate 103 0) (replicate 2 0)
     ∷ []
 
-pub uses-accepted : kinds (receiptsByAll zeroLent someUses) ≡ 1 ∷ 2 ∷ 1 ∷ 2 ∷ 2 ∷ []
+pub uses-accepted : kinds (receiptsByAll zeroLent someUses) ≡ 1 ∷ 2 ∷ 1 ∷ 4 ∷ 1 ∷ 5 ∷ 2 ∷ 2 ∷ []
 unfolding all first readDigits inRange readColumn readRow rowsFrom perform bytesThen rowsOf untouched stored recordTests calledOn openedOn receiptsOf used
-    finish leftAtEnd storedEnd endedOn newlines receiptsBy receiptsByAll someUses
+    finish leftAtEnd storedEnd endedOn newlines pairsOf entriesOf numbersOf untouchedWith storedWith registerCalledOn registerOpenedOn receiptsBy receiptsByAll
+    someUses
 uses-accepted = refl

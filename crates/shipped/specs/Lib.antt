@@ -4,3 +4,4 @@ pub mod Written
 pub mod Day
 pub mod DayMemory
 pub mod Mixed
+pub mod Register

@@ -35,9 +35,9 @@ noOpening [] = true
 noOpening (x ∷ xs) = not (isOpening x) && noOpening xs
 
 -- ---- from one point to another
--- what was asked in turn, with a receipt of each: a call gives and leaves what document 01's definitions give at its point; an accepted
--- opening starts anew, whatever was before it; all else (an opening that is refused, and a day sheet's rates and unreadable rows) leaves pool
--- and ring alone, and its receipt has no amounts
+-- what was asked in turn, with a receipt of each: a call gives and leaves what document 01's definitions give at its point, and one with a register
+-- that is accepted is the call without it; an accepted opening starts anew, whatever was before it; all else (an opening or a call with a register
+-- that is refused, and a day sheet's rates and unreadable rows) leaves pool and ring alone, and its receipt has no amounts
 pub data Went : State → List Receipt → State → Type 0 where
   stop : {s : State} → Went s [] s
   calls : {s s′ : State} {xs : List Receipt} (c : Call) → Went (left (next s c)) xs s′ → Went s (next s c .after .receipt ∷ xs) s′

@@ -1,8 +1,9 @@
-// Demand 3 and document 02 (e) of what people run, each claim carried by a contract.
+// Demand 3 and document 02 (e) and (g) of what people run, each claim carried by a contract.
 ghost use Rattle.shipped.specs.Day.{OpeningsSeen, DayTheorem, PrintedTheorem};
 ghost use Rattle.shipped.specs.DayMemory.{DayMemoryTheorem};
 ghost use Rattle.shipped.specs.Library.{LibraryTheorem};
 ghost use Rattle.shipped.specs.Mixed.{RowPoints, MixedTheorem};
+ghost use Rattle.shipped.specs.Register.{RegisterInMemory};
 ghost use mathlib.Core.Bool.{true};
 ghost use mathlib.Core.Path.{_≡_};
 
@@ -21,9 +22,16 @@ pub fn day_theorem() -> bool
     true
 }
 
-// Of one memory on which calls, openings and day sheets are mixed in any order (specs/Mixed.antt).
+// Of one memory on which calls and openings, with a register and without, and day sheets are mixed in any order (specs/Mixed.antt).
 pub fn mixed_theorem() -> bool
     ensures { λ r. ⌜ (r ≡ true) × RowPoints × MixedTheorem ⌝ }
+{
+    true
+}
+
+// Of every list of the library's calls that keep one register, after an opening with it that is accepted (specs/Register.antt).
+pub fn register_theorem() -> bool
+    ensures { λ r. ⌜ (r ≡ true) × RegisterInMemory ⌝ }
 {
     true
 }

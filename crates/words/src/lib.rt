@@ -30,7 +30,10 @@ pub const RECEIPT_WORDS: usize = 18;
 // How many arguments an opening has.
 pub const OPENING_WORDS: usize = 16;
 
-// The place in the record that says whether creator fees are enabled.
+// The place of the supply in the record.
+pub const SUPPLY_AT: usize = 8;
+
+// The place that says whether creator fees are enabled.
 pub const ENABLED_AT: usize = 12;
 
 // The place of the share rate.

@@ -4,6 +4,8 @@ mod afresh;
 mod by_hand;
 mod gentle;
 mod lists;
+mod registered;
+mod registers;
 mod report;
 mod rings;
 mod sides;

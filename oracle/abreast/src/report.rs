@@ -1,21 +1,25 @@
 //! The result, as it goes into docs/COMPARISON.md.
 
+use crate::registers;
 use crate::rings::{LENGTHS, SPACINGS};
 use crate::tally::{Answers, Group, Tally};
 use beside::verdict::Side;
 use std::fmt::Write;
 
-const KINDS: [u64; 7] = [1, 2, 3, 4, 5, 6, 7];
-const GREATEST_NUMBER: u64 = 15;
+const KINDS: &[u64] = &[1, 2, 3, 4, 5, 6, 7];
+const REGISTERED_KINDS: &[u64] = &[41, 44, 45];
+const GREATEST_NUMBER: u64 = 16;
 
 pub fn page(tally: &Tally, command: &str) -> String {
     let mut page = String::new();
     let put = "a String can always be written";
     writeln!(page, "{}", sentence(tally, command)).expect(put);
-    writeln!(page, "\n{}", answers("call", &tally.answers[Group::Usual])).expect(put);
+    writeln!(page, "\n{}", answers("call", KINDS, &tally.answers[Group::Usual])).expect(put);
     let other_grid = "call at another spacing or length";
-    writeln!(page, "{}", answers(other_grid, &tally.answers[Group::OtherGrid])).expect(put);
-    writeln!(page, "{}", answers("call with charges", &tally.answers[Group::Charged])).expect(put);
+    writeln!(page, "{}", answers(other_grid, KINDS, &tally.answers[Group::OtherGrid])).expect(put);
+    writeln!(page, "{}", answers("call with charges", KINDS, &tally.answers[Group::Charged])).expect(put);
+    writeln!(page, "{}", answers("call with a register", REGISTERED_KINDS, &all_answers(tally))).expect(put);
+    writeln!(page, "{}", lengths(tally)).expect(put);
     writeln!(page, "{}", pairs(tally)).expect(put);
     writeln!(page, "{}", classes(tally)).expect(put);
     for fault in &tally.faults {
@@ -27,14 +31,16 @@ pub fn page(tally: &Tally, command: &str) -> String {
 fn sentence(tally: &Tally, command: &str) -> String {
     format!(
         "`oracle/compare {command}`: {} calls in {:.0} s, {} of them on pools of another spacing or length and \
-         {} on pools with charges.\n\n{}\n{}\n{}\n{}",
+         {} on pools with charges; {} take a register.\n\n{}\n{}\n{}\n{}\n{}",
         grouped(tally.calls),
         tally.seconds(),
         grouped(tally.on_pools[Group::OtherGrid]),
         grouped(tally.on_pools[Group::Charged]),
+        grouped(tally.registers.calls),
         port_side(tally),
         original_side(tally),
         ring_side(tally),
+        register_side(tally),
         claims(tally),
     )
 }
@@ -43,7 +49,7 @@ fn port_side(tally: &Tally) -> String {
     let [output, input, deposit] = tally.fourteens.map(grouped);
     let [all, one_more] = tally.fifteens.map(grouped);
     format!(
-        "- the port beside the rules, every number of receipt, pool and ring: **{} differences**; \
+        "- the port beside the rules, every number of receipt, pool, ring and list: **{} differences**; \
          {} more calls on records with a wrong flag, each refused with 3; \
          14 for a swap's output {output} times, for its input {input}, for a deposit {deposit}; \
          {} withdrawals left just 100 LP, 15 for all LP {all} times, for one more than may be {one_more}",
@@ -79,6 +85,49 @@ fn ring_side(tally: &Tally) -> String {
     )
 }
 
+/// Calls with a register, and balances read from one.
+fn register_side(tally: &Tally) -> String {
+    let found = &tally.registers;
+    let [empty, too_many, odd, zero, twice, holder] = found.faults.map(grouped);
+    format!(
+        "- calls with a register: {} of {} beside the same call without one, which gives pool, ring and receipt; \
+         3 for no entry {empty} times, for more than 256 {too_many}, for an odd count of numbers {odd}, for a \
+         number 0 {zero}, for a number twice {twice}, for a holder 0 {holder}; 8 for a credit {} times, 16 {}; {} \
+         new holders, of whom {} had their number in another free entry, and {} emptied entries; {} balances \
+         read, {} refused",
+        grouped(found.beside),
+        grouped(found.calls),
+        grouped(found.past),
+        grouped(found.full),
+        grouped(found.entered),
+        grouped(found.stood_elsewhere),
+        grouped(found.emptied),
+        grouped(found.read),
+        grouped(found.unread),
+    )
+}
+
+/// Calls with a register by the length of its list.
+fn lengths(tally: &Tally) -> String {
+    let names = registers::LENGTHS.map(|(_, name)| name);
+    let counts = tally.registers.lengths.map(grouped);
+    let line = "---:|".repeat(names.len());
+    format!(
+        "| entries | {} |\n|---|{line}\n| calls with a register | {} |\n",
+        names.join(" | "),
+        counts.join(" | ")
+    )
+}
+
+/// Of all groups.
+fn all_answers(tally: &Tally) -> Answers {
+    let mut all = Answers::new();
+    for group in [Group::Usual, Group::OtherGrid, Group::Charged] {
+        tally.answers[group].iter().for_each(|(key, count)| *all.entry(*key).or_default() += count);
+    }
+    all
+}
+
 fn claims(tally: &Tally) -> String {
     let of_lists = |group| {
         let (lists, calls) = (grouped(tally.lists[group]), grouped(tally.list_calls[group]));
@@ -88,7 +137,9 @@ fn claims(tally: &Tally) -> String {
         "- demand 3's claims over {} lists ({} calls, {} rounds of the ring; {} of these at another spacing or \
          length, {} with charges): {} points afresh, floor, supply at least 100, nets above 0 ({} points at just \
          100, with which {} lists end), spacing and length the opening's, index before the length and no entry \
-         written at or past it, {} pairs of points rise, **{} failures**",
+         written at or past it, {} pairs of points rise; in {} lists opened with a register, {} of them with \
+         LP moved outside it, {} points at which its balances and 100 are the supply, and {} calls that \
+         change no balance but their holder's; **{} failures**",
         grouped(tally.lists.sum()),
         grouped(tally.list_calls.sum()),
         grouped(tally.ring_rounds.sum()),
@@ -98,6 +149,10 @@ fn claims(tally: &Tally) -> String {
         grouped(tally.drained_points),
         grouped(tally.drained_lists),
         grouped(tally.pairs),
+        grouped(tally.registers.lists),
+        grouped(tally.registers.mixed_lists),
+        grouped(tally.registers.points),
+        grouped(tally.registers.changes),
         tally.claim_faults,
     )
 }
@@ -108,15 +163,15 @@ fn left(tally: &Tally) -> String {
     counts.collect::<Vec<_>>().join("; ")
 }
 
-fn answers(title: &str, answers: &Answers) -> String {
+fn answers(title: &str, kinds: &[u64], answers: &Answers) -> String {
     let count = |kind: u64, number: u64| answers.get(&(kind, number)).copied().unwrap_or(0);
-    let given = |number: &u64| KINDS.iter().any(|kind| count(*kind, *number) > 0);
+    let given = |number: &u64| kinds.iter().any(|kind| count(*kind, *number) > 0);
     let seen: Vec<u64> = (0..=GREATEST_NUMBER).filter(given).collect();
     let titles: Vec<String> = seen.iter().map(u64::to_string).collect();
     let mut table = format!("| {title} | {} |\n|---|{}\n", titles.join(" | "), "---:|".repeat(seen.len()));
-    for kind in KINDS {
-        let name = record::form(kind).expect("every call has its form").name;
-        let counts: Vec<String> = seen.iter().map(|number| grouped(count(kind, *number))).collect();
+    for kind in kinds {
+        let name = record::form(*kind).expect("every call has its form").name;
+        let counts: Vec<String> = seen.iter().map(|number| grouped(count(*kind, *number))).collect();
         table += &format!("| `{name}` | {} |\n", counts.join(" | "));
     }
     table

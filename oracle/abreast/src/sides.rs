@@ -45,16 +45,21 @@ fn past_length_side(before: &State, case: &Case, port: &Port, tally: &mut Tally)
 
 /// The port gives the rules' whole answer, and of a refused call writes only the receipt.
 fn port_side(case: &Case, call: &Call, document: &After, port: &mut Port, tally: &mut Tally) {
-    port.receipt.fill(FILL);
-    let expected = match document.number {
-        0 => Port::with(&document.state, &document.receipt),
-        number => port.refused(number),
-    };
+    let expected = expected(document, port);
     let number = port.call(call);
     if number != document.number || *port != expected {
         tally.port_fault(differing(number, port, document.number, &expected), case);
     }
     nets_side(case, port, tally);
+}
+
+/// What the memory must hold after a call that the rules answer so. Its receipt is filled before the call.
+pub fn expected(document: &After, port: &mut Port) -> Port {
+    port.receipt.fill(FILL);
+    match document.number {
+        0 => Port::with(&document.state, &document.receipt),
+        number => port.refused(number),
+    }
 }
 
 /// The two nets of what the call left.
@@ -68,7 +73,7 @@ fn nets_side(case: &Case, port: &Port, tally: &mut Tally) {
     }
 }
 
-fn differing(number: u64, port: &Port, expected_number: u64, expected: &Port) -> String {
+pub fn differing(number: u64, port: &Port, expected_number: u64, expected: &Port) -> String {
     let mut places = Vec::new();
     let mut compare = |name: &str, left: &[u64], right: &[u64]| {
         let at = left.iter().zip(right).position(|(left, right)| left != right);

@@ -1,5 +1,6 @@
 //! What was counted, and the faults.
 
+use crate::registers::Registers;
 use crate::rings::Rings;
 use crate::sides::Fault;
 use beside::generator::charges::most_arriving;
@@ -92,6 +93,7 @@ pub struct Tally {
     /// How often lists went around the ring.
     pub ring_rounds: Groups<u64>,
     pub rings: Rings,
+    pub registers: Registers,
     pub points: u64,
     pub pairs: u64,
     /// Points with just the locked LP, and lists that end with one.
@@ -121,6 +123,7 @@ impl Tally {
             list_calls: Groups::default(),
             ring_rounds: Groups::default(),
             rings: Rings::default(),
+            registers: Registers::default(),
             points: 0,
             pairs: 0,
             drained_points: 0,
@@ -143,7 +146,7 @@ impl Tally {
     pub fn answered(&mut self, case: &Case, number: u64) {
         let group = Group::of(case);
         *self.answers[group].entry((case.kind, number)).or_default() += 1;
-        self.on_pools[group] += u64::from(case.kind != 1);
+        self.on_pools[group] += u64::from(!matches!(case.kind, 1 | 41));
         if number == 14 {
             self.fourteens[place_of_14(case)] += 1;
         }
@@ -208,6 +211,11 @@ impl Tally {
     pub fn claim_fault(&mut self, what: &str, case: &Case) {
         self.claim_faults += 1;
         self.keep(format!("demand 3: {what}"), case);
+    }
+
+    pub fn register_fault(&mut self, what: &str, case: &Case) {
+        self.claim_faults += 1;
+        self.keep(format!("02 (g): {what}"), case);
     }
 
     fn keep(&mut self, what: String, case: &Case) {

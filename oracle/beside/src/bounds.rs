@@ -6,6 +6,7 @@ mod charges;
 mod division;
 mod grid;
 mod locked;
+mod register;
 
 use crate::left::LeftCounts;
 use crate::verdict::{verdict, Side};
@@ -17,6 +18,8 @@ struct Bound {
     number: u64,
     /// Columns of the answer.
     shows: Vec<(&'static str, u64)>,
+    /// The list after a call with a register.
+    list: Vec<u64>,
     case: Case,
 }
 
@@ -36,6 +39,11 @@ pub fn all() -> bool {
 /// The bounds as cases, for the sample.
 pub fn cases() -> Vec<Case> {
     bounds().into_iter().map(|bound| bound.case).collect()
+}
+
+/// Those with a register, without the tokens exchanged.
+pub fn register_cases() -> Vec<Case> {
+    register::bounds().into_iter().map(|bound| bound.case).collect()
 }
 
 fn bounds() -> Vec<Bound> {
@@ -62,7 +70,8 @@ fn bounds() -> Vec<Bound> {
         lp_tokens(),
         bookings(),
     ];
-    let requested = [charges::bounds(), division::bounds(), locked::bounds(), grid::bounds()];
+    let requested =
+        [charges::bounds(), division::bounds(), locked::bounds(), grid::bounds(), register::bounds()];
     named.into_iter().chain(requested).flatten().flat_map(Bound::with_mirror).collect()
 }
 
@@ -74,7 +83,7 @@ impl Bound {
         }
         let says = "  the same with the tokens exchanged".into();
         let shows = self.shows.iter().map(|(column, number)| (exchanged(column), *number)).collect();
-        let mirror = Bound { says, number: self.number, shows, case };
+        let mirror = Bound { says, number: self.number, shows, list: self.list.clone(), case };
         vec![self, mirror]
     }
 
@@ -92,7 +101,8 @@ impl Bound {
         let verdict = verdict(&self.case);
         let number = verdict.document.number;
         let answered = number == self.number && self.case.shows(&verdict.document, &self.shows);
-        let right = answered && verdict.side != Side::Unlisted;
+        let listed = self.case.list_after(&verdict.document) == self.list;
+        let right = answered && listed && verdict.side != Side::Unlisted;
         let left = if verdict.side == Side::Left { ", left to the model" } else { "" };
         println!("{:70} {:2} {}{left}", self.says, number, if right { "ok" } else { "FAIL" });
         right
@@ -121,9 +131,9 @@ fn mirrored(case: &Case) -> Case {
     const SUMS: [(usize, usize); 2] =
         [(POOL_LENGTH + 1, POOL_LENGTH + 3), (POOL_LENGTH + 2, POOL_LENGTH + 4)];
     let (pairs, model, direction): (&[(usize, usize)], _, _) = match case.kind {
-        1 => (&[(0, 1), (10, 12), (11, 13)], Some(2), None),
+        1 | 41 => (&[(0, 1), (10, 12), (11, 13)], Some(2), None),
         2 | 3 => (&SUMS, Some(11), Some(SWAP_ARGUMENTS)),
-        4 => (&[(ARGUMENTS + 1, ARGUMENTS + 2)], Some(11), None),
+        4 | 44 | 45 => (&[(ARGUMENTS + 1, ARGUMENTS + 2)], Some(11), None),
         5 => (&[(ARGUMENTS + 2, ARGUMENTS + 3)], Some(11), None),
         6 | 7 => (&[], Some(11), None),
         22 => (&[(2, 3)], None, None),
@@ -132,7 +142,8 @@ fn mirrored(case: &Case) -> Case {
         36 => (&[(6, 8), (7, 9), (11, 12)], None, None),
         _ => (&[], None, None),
     };
-    let pool: &[&[(usize, usize)]] = if matches!(case.kind, 2..=7) { &[&VAULTS, &CHARGES] } else { &[] };
+    let on_pool = matches!(case.kind, 2..=7 | 44 | 45);
+    let pool: &[&[(usize, usize)]] = if on_pool { &[&VAULTS, &CHARGES] } else { &[] };
     let mut columns = case.columns.clone();
     pairs.iter().chain(pool.iter().copied().flatten()).for_each(|(one, other)| columns.swap(*one, *other));
     if let Some(model) = model {
@@ -145,7 +156,7 @@ fn mirrored(case: &Case) -> Case {
 }
 
 fn bound(says: impl Into<String>, number: u64, case: Case) -> Bound {
-    Bound { says: says.into(), number, shows: vec![], case }
+    Bound { says: says.into(), number, shows: vec![], list: vec![], case }
 }
 
 fn alone(kind: u64, columns: &[u64]) -> Case {

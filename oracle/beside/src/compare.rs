@@ -1,6 +1,6 @@
 //! The original beside the rules on many cases.
 
-use crate::generator::{self, small, DIVISION_ONE_FOR};
+use crate::generator::{self, small};
 use crate::left::LeftCounts;
 use crate::shrink::{shrunk, size};
 use crate::verdict::{verdict, Side, Verdict};
@@ -27,7 +27,7 @@ pub struct Tally {
 
 /// Compares and prints; whether every difference was of a listed class.
 pub fn seeded(seed: u64, count: u64) -> bool {
-    report(over(generator::cases(seed, count), count + count / DIVISION_ONE_FOR))
+    report(over(generator::cases(seed, count), generator::count(count)))
 }
 
 /// All small cases.

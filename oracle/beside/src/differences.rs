@@ -1,6 +1,7 @@
 //! The rows of docs/DIFFERENCES.md, run: each with what the Rust does and what the rules answer.
 //! Part G has what the Rust no longer decides, where it is asked nevertheless.
 
+use crate::generator::registers::with;
 use crate::left::LeftCounts;
 use record::{Case, Grid, Left, State, POOL_COLUMNS};
 use runner::{Cause, Outcome};
@@ -16,10 +17,14 @@ struct Row {
     /// Some columns of the port's answer, and of the Rust's.
     shows: &'static [(&'static str, u64)],
     rust_shows: &'static [(&'static str, u64)],
+    /// The list after a call with a register.
+    list: &'static [u64],
 }
 
 const MOST: u64 = u64::MAX;
 const HALF: u64 = 1 << 63;
+/// What is printed of a case; only the list of one too many entries is longer.
+const LONGEST_LINE: usize = 400;
 const WORKED: [(&str, u64); 6] = [
     ("vault 0", 1_000_000),
     ("vault 1", 4_000_000),
@@ -65,6 +70,8 @@ fn rows() -> Vec<Row> {
         lengths(),
         rings_alone(),
         opened_grids(),
+        registers(),
+        entries(),
     ]
     .into_iter()
     .flatten()
@@ -72,7 +79,7 @@ fn rows() -> Vec<Row> {
 }
 
 fn row(row: &'static str, case: Case, rust: &'static str, port: u64) -> Row {
-    Row { row, case, rust, port, left: None, shows: &[], rust_shows: &[] }
+    Row { row, case, rust, port, left: None, shows: &[], rust_shows: &[], list: &[] }
 }
 
 /// A call on a pool of zeros but for spacing 15, length 100 and these columns.
@@ -481,6 +488,51 @@ fn opened_grids() -> Vec<Row> {
     ]
 }
 
+/// Deposits, withdrawals and openings by holder 7 with what is no register, 02 (g). Without one the Rust
+/// accepts deposit and withdrawal.
+fn registers() -> Vec<Row> {
+    const TOO_MANY: [u64; 514] = [0; 514];
+    let deposit = on(&even(101), 4, &[1, MOST, MOST]);
+    let withdrawal = on(&even(101), 5, &[1, 1, 0, 0]);
+    let lists: [(&'static str, u64, &'static [u64]); 6] = [
+        ("G56", 7, &[]),
+        ("G57", 7, &TOO_MANY),
+        ("G58", 7, &[7, 1, 0]),
+        ("G59", 7, &[7, 1, 0, 1]),
+        ("G60", 7, &[7, 1, 7, 1]),
+        ("G61", 0, &[7, 1]),
+    ];
+    let mut rows = vec![];
+    for (name, holder, list) in lists {
+        for call in [&deposit, &withdrawal, &opening([101, 101], 0), &opening([0, 0], 0)] {
+            rows.push(row(name, with(call, holder, list), "has none", 3).listing(list));
+        }
+    }
+    left_to_model(rows, Left::Register)
+}
+
+/// What a call does to the entries, and the two tests of the holder's.
+fn entries() -> Vec<Row> {
+    let deposit = |list: &[u64]| with(&on(&even(101), 4, &[1, MOST, MOST]), 7, list);
+    let withdrawal = |lp, list: &[u64]| with(&on(&even(102), 5, &[lp, 0, 0, 0]), 7, list);
+    let opened = with(&opening([101, 101], 0), 7, &[8, 5, 9, 5]);
+    let read = |holder, list: &[u64]| function(40, &[&[holder], list].concat());
+    let rows = vec![
+        row("G62", opened, "has none", 0).listing(&[7, 1, 0, 0]),
+        row("G63", deposit(&[8, 0, 7, 0]), "has none", 0).listing(&[7, 1, 7, 0]),
+        row("G64", deposit(&[8, 0, 7, 5]), "has none", 0).listing(&[8, 0, 7, 6]),
+        row("G65", deposit(&[7, MOST]), "has none", 8).listing(&[7, MOST]),
+        row("G66", deposit(&[8, 1]), "has none", 16).listing(&[8, 1]),
+        row("G67", withdrawal(2, &[7, 2]), "has none", 0).listing(&[7, 0]),
+        row("G68", withdrawal(2, &[7, 1]), "has none", 10).listing(&[7, 1]),
+        row("G68", withdrawal(2, &[8, 2]), "has none", 10).listing(&[8, 2]),
+        row("G69", read(7, &[8, 1, 7, 2]), "has none", 0).shows(&[("balance", 2)]),
+        row("G69", read(9, &[8, 1, 7, 2]), "has none", 0).shows(&[("balance", 0)]),
+        row("G69", read(0, &[8, 1, 7, 2]), "has none", 3),
+    ];
+    left_to_model(rows, Left::Register)
+}
+
 /// The rows of part G, with the reason why they are there.
 fn left_to_model(rows: Vec<Row>, left: Left) -> Vec<Row> {
     rows.into_iter().map(|row| Row { left: Some(left), ..row }).collect()
@@ -502,6 +554,10 @@ impl Row {
         Row { shows, ..self }
     }
 
+    fn listing(self, list: &'static [u64]) -> Row {
+        Row { list, ..self }
+    }
+
     fn rust_shows(self, rust_shows: &'static [(&'static str, u64)]) -> Row {
         Row { rust_shows, ..self }
     }
@@ -516,10 +572,12 @@ impl Row {
             _ => self.rust_shows.is_empty(),
         };
         let rust_right = rust == self.rust && rust_shown;
-        let answered = rust_right && number == self.port && case.shows(&port, self.shows);
+        let shown = case.shows(&port, self.shows) && case.list_after(&port) == self.list;
+        let answered = rust_right && number == self.port && shown;
         let right = answered && case.left_to_model() == self.left;
         let mark = if right { "ok" } else { "FAIL" };
-        println!("{:4} {mark}: {}\n     the Rust: {rust}; the rules: {number}", self.row, case.line());
+        let line: String = case.line().chars().take(LONGEST_LINE).collect();
+        println!("{:4} {mark}: {line}\n     the Rust: {rust}; the rules: {number}", self.row);
         right
     }
 }

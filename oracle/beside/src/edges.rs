@@ -1,5 +1,7 @@
-//! Document 01's worked example and its edges, with document 02 (a), (b), (c), (e) and (f), answered by both
+//! Document 01's worked example and its edges, with document 02 (a), (b), (c), (e), (f) and (g), answered by both
 //! sides. Openings are added by document 01, so there the original has no answer.
+
+mod register;
 
 use crate::left::LeftCounts;
 use crate::verdict::{verdict, Side};
@@ -12,6 +14,8 @@ struct Edge {
     case: Case,
     number: u64,
     columns: Vec<(&'static str, u64)>,
+    /// The list after a call with a register.
+    list: Vec<u64>,
 }
 
 const RATES: [u64; 5] = [2500, 120_000, 40_000, 0, 0];
@@ -57,6 +61,9 @@ fn edges() -> Vec<Edge> {
         spacings(),
         short_ring(),
         grids_by_hand(),
+        register::worked(),
+        register::refused(),
+        register::balances(),
     ];
     named.into_iter().flatten().collect()
 }
@@ -90,7 +97,7 @@ fn after(opening: &Case) -> State {
 }
 
 fn edge(says: &'static str, case: Case, number: u64, columns: &[(&'static str, u64)]) -> Edge {
-    Edge { says, case, number, columns: columns.to_vec() }
+    Edge { says, case, number, columns: columns.to_vec(), list: vec![] }
 }
 
 /// The worked day, and its edges with limits that a caller would give.
@@ -492,7 +499,8 @@ impl Edge {
     }
 
     fn is_met(&self, answer: &Answer) -> bool {
-        answer.number == self.number && self.case.shows(answer, &self.columns)
+        let shown = self.case.shows(answer, &self.columns) && self.case.list_after(answer) == self.list;
+        answer.number == self.number && shown
     }
 }
 

@@ -8,12 +8,14 @@ use std::collections::BTreeMap;
 
 /// Whether the rules give the number that document 02 gives to such cases, where it gives one. By (e)
 /// these are withdrawals that the original accepts, and of that alone it is asked; by (f) swaps of which
-/// only the ring is no longer its own, and it is asked of the rest.
+/// only the ring is no longer its own, and it is asked of the rest; by (g) calls with a register, and it is
+/// asked about those without.
 pub fn is_as_told(left: Left, case: &Case, document: &Answer) -> bool {
     let told = left.number().is_none_or(|told| told == document.number);
     told && match left {
         Left::LockedLp => original_accepts(case),
         Left::OtherGrid => only_ring_is_left(case, document),
+        Left::Register => only_register_is_left(case, document),
         _ => true,
     }
 }
@@ -43,6 +45,28 @@ fn only_ring_is_left(case: &Case, document: &Answer) -> bool {
         (unused, number) => unused == number,
     };
     as_unused && matches!(unused.side, Side::Both | Side::DocumentAlone)
+}
+
+/// The numbers of the last two tests of a deposit with a register.
+const OF_THE_ENTRY: [u64; 2] = [8, 16];
+
+/// A list that is no register and a holder 0 are refused with 3. Else the same call without a register is decided
+/// as ever: a refusal there is the case's too, with the list as it was; where it is accepted, receipt and
+/// pool are the same, or the holder's entry is refused.
+fn only_register_is_left(case: &Case, document: &Answer) -> bool {
+    let (Some((_, list)), true) = (case.register(), case.form().is_registered_call()) else {
+        return true;
+    };
+    let list_after = case.list_after(document);
+    let list_stays = document.number == 0 || list == list_after;
+    let Some(without) = model::register::without(case).ok().as_ref().map(verdict) else {
+        return list_stays && document.number == 3;
+    };
+    let as_without = match (without.document.number, document.number) {
+        (0, number @ 1..) => OF_THE_ENTRY.contains(&number),
+        (number, other) => number == other && document.values.starts_with(&without.document.values),
+    };
+    list_stays && as_without && without.side != Side::Unlisted
 }
 
 /// The same call on an unused ring of spacing 15 and length 100; none of a function alone.

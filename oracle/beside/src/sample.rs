@@ -2,7 +2,7 @@
 //! the answers that a replay must give. The same seed writes the same bytes.
 
 use crate::generator::alone::ring_at_nets;
-use crate::generator::{divisions, small, Generator};
+use crate::generator::{divisions, registers, small, Generator};
 use crate::random::Random;
 use crate::shrink::shrunk;
 use crate::verdict::{verdict, Side, Verdict};
@@ -17,22 +17,41 @@ const SEED: u64 = 1;
 const SCANNED: usize = 400_000;
 const RINGS_SCANNED: usize = 4_000;
 const DIVISIONS_SCANNED: usize = 4_000;
+const REGISTERS_SCANNED: usize = 20_000;
 /// One in so many small cases. New ones go behind the others, whose rows then stay as they are.
 const SMALL_ONE_IN: usize = 4_076;
+/// One in so many of those that take a register and have a row.
+const SMALL_REGISTER_ONE_IN: usize = 997;
+/// As many entries as a row has columns for.
+const ROW_ENTRIES: usize = 2;
 
 /// Writes `cases.txt` into the folder and prints what it holds.
 pub fn write(folder: &Path) -> io::Result<()> {
     let mut sample = Sample::default();
     let chosen = [edges::cases(), late::cases(), bounds::cases(), differences::cases()];
-    chosen.into_iter().flatten().for_each(|case| sample.keep(case));
-    small::cases().step_by(SMALL_ONE_IN).for_each(|case| sample.keep(case));
+    chosen.into_iter().flatten().filter(|case| !takes_list(case)).for_each(|case| sample.keep(case));
+    small::cases().step_by(SMALL_ONE_IN).filter(|case| !takes_list(case)).for_each(|case| sample.keep(case));
     sample.fill_from(Generator::new(SEED).take(SCANNED));
     let mut random = Random::new(SEED);
     sample.fill_from((0..RINGS_SCANNED).map(|_| ring_at_nets(&mut random)));
     sample.fill_from(divisions(SEED).take(DIVISIONS_SCANNED));
+    let chosen = [edges::cases(), bounds::register_cases(), differences::cases()];
+    chosen.into_iter().flatten().filter(fits_row).for_each(|case| sample.keep(case));
+    let small = small::cases().filter(takes_list).filter(fits_row).step_by(SMALL_REGISTER_ONE_IN);
+    small.for_each(|case| sample.keep(case));
+    sample.fill_from(registers::cases(SEED).take(REGISTERS_SCANNED).filter(fits_row));
     sample.save(&folder.join("cases.txt"))?;
     sample.print_contents();
     Ok(())
+}
+
+fn takes_list(case: &Case) -> bool {
+    case.form().takes_list()
+}
+
+/// Whether a row has columns for its list: whole entries, and few.
+fn fits_row(case: &Case) -> bool {
+    case.register().is_some_and(|(_, list)| list.len() % 2 == 0 && list.len() <= 2 * ROW_ENTRIES)
 }
 
 /// A case with its answer, as the replay's columns.
@@ -142,9 +161,40 @@ fn row(case: &Case, document: &Answer, side: u64) -> Row {
             answer.truncate(1 + pool_end);
             answer.extend(if case.kind < 4 { &document.values[pool_end..] } else { &entry });
         }
+        40.. => return registered_row(case, document, side),
         10..=21 => given.resize(3, 0),
         31 | 32 => given.resize(POOL_LENGTH, 0),
         _ => {}
+    }
+    Row { kind: case.kind, side, given, answer }
+}
+
+/// Two entries, of which the row says how many there are; the others are zeros. Behind its answer a call has
+/// the holder's balance in the list that it leaves, 0 where that is no register, and that list.
+fn registered_row(case: &Case, document: &Answer, side: u64) -> Row {
+    let (holder, list) = case.register().expect("the row is of a register");
+    let filled = |list: &[u64]| {
+        let mut list = list.to_vec();
+        list.resize(2 * ROW_ENTRIES, 0);
+        list
+    };
+    let entries = list.len() as u64 / 2;
+    let after = case.list_after(document);
+    let balance = model::register::balance(after, holder).unwrap_or(0);
+    let call = &document.values[..document.values.len() - after.len()];
+    let given = &case.columns[..case.columns.len() - list.len() - 1];
+    let lent = filled(list);
+    let given = match case.kind {
+        44 | 45 => [&given[POOL_LENGTH..], &[entries], &given[..POOL_LENGTH], &[holder], &lent].concat(),
+        _ => [given, &[entries, holder], &lent].concat(),
+    };
+    let mut answer = [&[document.number], call].concat();
+    if case.kind == 41 {
+        answer.push(0);
+    }
+    if case.form().is_registered_call() {
+        answer.push(balance);
+        answer.extend(filled(after));
     }
     Row { kind: case.kind, side, given, answer }
 }
@@ -192,6 +242,9 @@ fn quota(kind: u64, verdict: &Verdict) -> u64 {
         (4 | 5, 0) => 120,
         (1 | 6 | 7, 0) => 50,
         (2..=5, _) => 16,
+        (44 | 45, 0) => 24,
+        (40 | 41, 0) => 12,
+        (40.., _) => 4,
         (24, 0) => 300,
         (36, 0) => 150,
         (10.., 0) => 60,

@@ -1,4 +1,4 @@
-//! The rules, document 01 with document 02 (a) to (f), in whole numbers: every call and every
+//! The rules, document 01 with document 02 (a) to (g), in whole numbers: every call and every
 //! function alone, written from their text and in its order. It knows nothing of the original.
 
 pub mod calls;
@@ -7,6 +7,7 @@ mod curve;
 mod fees;
 mod functions;
 mod refusal;
+pub mod register;
 mod ring;
 mod whole;
 
@@ -19,6 +20,7 @@ pub fn answer(case: &Case) -> Answer {
             let after = run(&case.state(), &call);
             call_answer(case.kind, after.number, &after.receipt, &after.state)
         }
+        None if case.form().takes_list() => register::answer(case),
         None => functions::answer(case),
     }
 }
@@ -35,12 +37,13 @@ pub struct After {
 pub fn run(state: &State, call: &Call) -> After {
     match calls::accepted(state, call) {
         Ok((state, receipt)) => After { number: 0, receipt, state },
-        Err(number) => {
-            let opening = matches!(call, Call::Opening(_));
-            let state = if opening { empty() } else { state.clone() };
-            After { number, receipt: Receipt::default(), state }
-        }
+        Err(number) => refused(number, state, matches!(call, Call::Opening(_))),
     }
+}
+
+fn refused(number: u64, state: &State, opening: bool) -> After {
+    let state = if opening { empty() } else { state.clone() };
+    After { number, receipt: Receipt::default(), state }
 }
 
 /// A pool and ring of zeros.

@@ -15,6 +15,7 @@ pub const PANIC: u64 = 11;
 pub const INIT_LP_AMOUNT_TOO_LESS: u64 = 13;
 pub const TRANSFER_FEE_CALCULATE_NOT_MATCH: u64 = 14;
 pub const LEFT_LP_AMOUNT_TOO_LESS: u64 = 15;
+pub const REGISTER_FULL: u64 = 16;
 
 /// The next step of a call: refused with this number, or on to the one after.
 pub fn refuse_if(fails: bool, number: u64) -> Result<(), u64> {

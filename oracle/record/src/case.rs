@@ -10,7 +10,7 @@ use std::ops::Range;
 const ENTRY: Range<usize> = POOL_LENGTH..POOL_LENGTH + ENTRY_LENGTH;
 const RING_INDEX: usize = 19;
 
-/// The columns are what the form names: pool, entry, arguments.
+/// The columns are what the form names: pool, entry, arguments; behind them the list of what takes one.
 #[derive(Clone, Debug, PartialEq, Eq)]
 pub struct Case {
     pub kind: u64,
@@ -18,7 +18,7 @@ pub struct Case {
 }
 
 /// Number 0 is accepted. The values of a call are its receipt, the pool and, for a swap,
-/// the entry at the ring's index.
+/// the entry at the ring's index, for a call with a register the list.
 #[derive(Clone, Debug, PartialEq, Eq)]
 pub struct Answer {
     pub number: u64,
@@ -67,7 +67,7 @@ impl Case {
     /// Whether its pool has points above 0 of either token, or what it opens or charges has.
     pub fn bears_charges(&self) -> bool {
         match self.kind {
-            1 => self.columns[10] != 0 || self.columns[12] != 0,
+            1 | 41 => self.columns[10] != 0 || self.columns[12] != 0,
             18 | 19 => self.columns[1] != 0,
             _ => self.pool().bears_charges(),
         }
@@ -77,14 +77,23 @@ impl Case {
     pub fn grid(&self) -> Option<Grid> {
         match (self.kind, self.call()) {
             (_, Some(Call::Opening(opening))) => Some(opening.grid),
-            (_, Some(_)) => Some(self.pool().grid),
+            (_, Some(_)) | (44 | 45, None) => Some(self.pool().grid),
+            (41, None) => Some(Grid { spacing: self.columns[14], length: self.columns[15] }),
             (30 | 36, None) => RingAlone::from_words(&self.columns).map(|ring| ring.grid),
             _ => None,
         }
     }
 
+    /// The call; none of a function alone or a call with a register.
     pub fn call(&self) -> Option<Call> {
         Call::from_words(self.kind, self.arguments())
+    }
+
+    /// The holder and the list of what takes a register.
+    pub fn register(&self) -> Option<(u64, &[u64])> {
+        let form = self.form();
+        let list = form.columns_before() + form.arguments.len();
+        form.takes_list().then(|| (self.columns[list - 1], &self.columns[list..]))
     }
 
     /// The case of a call on this state, of which it takes what its form names.
@@ -108,7 +117,8 @@ impl Case {
             return false;
         };
         let before = form.columns_before();
-        self.columns.len() == before + form.arguments.len()
+        let list = self.columns.len().checked_sub(before + form.arguments.len());
+        list.is_some_and(|numbers| numbers == 0 || form.takes_list())
             && (before == 0 || Pool::from_words(&self.columns[..POOL_LENGTH]).is_some())
             && !(self.kind == 22 && self.columns[4] > 1)
             && !(matches!(self.kind, 30 | 36) && self.columns[0] > 1)
@@ -120,9 +130,20 @@ impl Case {
         columns.iter().all(|(name, number)| self.column(answer, name) == Some(*number))
     }
 
+    /// The list that an answer to this call with a register gives, behind receipt and pool.
+    pub fn list_after<'a>(&self, answer: &'a Answer) -> &'a [u64] {
+        if self.form().is_registered_call() {
+            &answer.values[RECEIPT_LENGTH + POOL_LENGTH..]
+        } else {
+            &[]
+        }
+    }
+
     fn column(&self, answer: &Answer, name: &str) -> Option<u64> {
         let form = self.form();
-        let at = if form.is_call() {
+        let at = if form.is_registered_call() {
+            RECEIPT_COLUMNS.iter().chain(&POOL_COLUMNS).position(|column| *column == name)
+        } else if form.is_call() {
             let mut columns = RECEIPT_COLUMNS.iter().chain(&POOL_COLUMNS).chain(&ENTRY_COLUMNS);
             columns.position(|column| *column == name)
         } else {

@@ -1,5 +1,7 @@
-//! The kinds of case: what each takes and what it gives. Kinds 1 to 7 are the calls.
+//! The kinds of case: what each takes and what it gives. Kinds 1 to 7 are the calls, 41, 44 and 45 those of
+//! 1, 4 and 5 with a register.
 
+use crate::call::OPENING_LENGTH;
 use crate::pool::POOL_LENGTH;
 use crate::ring::ENTRY_LENGTH;
 
@@ -34,6 +36,25 @@ const fn function(
     Form { kind, name, on: On::Nothing, arguments, values }
 }
 
+const OPENING_AND_HOLDER: &[&str] = &[
+    "amount 0",
+    "amount 1",
+    "fee model",
+    "enabled",
+    "open time",
+    "trade rate",
+    "protocol rate",
+    "fund rate",
+    "creator rate",
+    "share rate",
+    "points 0",
+    "maximum 0",
+    "points 1",
+    "maximum 1",
+    "spacing",
+    "length",
+    "holder",
+];
 const SWAP: &[&str] = &["direction", "amount", "limit", "clock"];
 const RATED: &[&str] = &["amount", "rate"];
 const CHARGED: &[&str] = &["amount", "points", "maximum"];
@@ -55,29 +76,7 @@ const RING: &[&str] = &[
 ];
 
 pub const FORMS: &[Form] = &[
-    call(
-        1,
-        "opening",
-        On::Nothing,
-        &[
-            "amount 0",
-            "amount 1",
-            "fee model",
-            "enabled",
-            "open time",
-            "trade rate",
-            "protocol rate",
-            "fund rate",
-            "creator rate",
-            "share rate",
-            "points 0",
-            "maximum 0",
-            "points 1",
-            "maximum 1",
-            "spacing",
-            "length",
-        ],
-    ),
+    call(1, "opening", On::Nothing, OPENING_AND_HOLDER.split_at(OPENING_LENGTH).0),
     call(2, "swap_base_input", On::PoolAndEntry, SWAP),
     call(3, "swap_base_output", On::PoolAndEntry, SWAP),
     call(4, "deposit", On::Pool, &["lp", "maximum 0", "maximum 1"]),
@@ -178,15 +177,34 @@ pub const FORMS: &[Form] = &[
         ],
         RING,
     ),
+    // What takes a register has the holder last; behind it stands the list, of any count of numbers.
+    function(40, "balance", &["holder"], &["balance"]),
+    call(41, "open_registered", On::Nothing, OPENING_AND_HOLDER),
+    call(44, "deposit_registered", On::Pool, &["lp", "maximum 0", "maximum 1", "holder"]),
+    call(45, "withdraw_registered", On::Pool, &["lp", "minimum 0", "minimum 1", "holder"]),
 ];
+
+/// What is added to the kind of a call that takes a register.
+pub const WITH_REGISTER: u64 = 40;
 
 pub fn form(kind: u64) -> Option<&'static Form> {
     FORMS.iter().find(|form| form.kind == kind)
 }
 
 impl Form {
+    /// Whether it is a call without a register.
     pub fn is_call(&self) -> bool {
         self.kind < 10
+    }
+
+    /// Whether a list stands behind its arguments, of which the last is the holder.
+    pub fn takes_list(&self) -> bool {
+        self.kind >= WITH_REGISTER
+    }
+
+    /// Whether it is a call with a register.
+    pub fn is_registered_call(&self) -> bool {
+        self.kind > WITH_REGISTER
     }
 
     /// How many of a case's columns come before its arguments.

@@ -22,6 +22,8 @@ pub enum Left {
     LockedLp,
     /// 02 (f): a swap, or the ring alone, at another spacing than 15 or another length than 100.
     OtherGrid,
+    /// 02 (g): a call with a register, or a balance read from one.
+    Register,
 }
 
 /// The least that a withdrawal leaves, by 02 (e).
@@ -35,6 +37,7 @@ impl fmt::Display for Left {
             Left::Charge => "points above 0, 02 (c)",
             Left::LockedLp => "fewer than 100 LP left, 02 (e)",
             Left::OtherGrid => "spacing not 15 or length not 100, 02 (f)",
+            Left::Register => "register of holders, 02 (g)",
         })
     }
 }
@@ -43,7 +46,7 @@ impl Left {
     /// The number that document 02 gives to all these cases, where it gives one.
     pub fn number(self) -> Option<u64> {
         match self {
-            Left::RateSumOfZero | Left::Charge | Left::OtherGrid => None,
+            Left::RateSumOfZero | Left::Charge | Left::OtherGrid | Left::Register => None,
             Left::AmountOnClosedPool => Some(1),
             Left::LockedLp => Some(15),
         }
@@ -58,6 +61,7 @@ impl Case {
     /// The first reason that holds; none where the original decides.
     pub fn left_to_model(&self) -> Option<Left> {
         let reasons = [
+            (Left::Register, self.form().takes_list()),
             (Left::RateSumOfZero, self.rate_sum_is_0()),
             (Left::AmountOnClosedPool, self.is_refused_amount_on_closed_pool()),
             // An opening has no original beside it, whatever it charges.

@@ -10,7 +10,7 @@ mod ring;
 
 pub use call::{Call, Opening, Receipt, Swap, OPENING_LENGTH, RECEIPT_COLUMNS, RECEIPT_LENGTH};
 pub use case::{call_answer, Answer, Case};
-pub use form::{form, Form, On, FORMS};
+pub use form::{form, Form, On, FORMS, WITH_REGISTER};
 pub use left::{Left, LOCKED_LP};
 pub use pool::{Charge, Grid, Pool, Rates, RingHead, State, POOL_COLUMNS, POOL_LENGTH};
 pub use ring::{

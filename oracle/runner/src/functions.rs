@@ -20,6 +20,7 @@ pub fn answer(case: &Case) -> Outcome {
         32 => results(case, prices(words)),
         33 => booking(words),
         34 => fee_on_input(case),
+        40.. => Outcome::Absent("a register of holders"),
         _ => results(case, caught(|| CurveCalculator::validate_supply(words[0], words[1])).map(|()| vec![])),
     }
 }

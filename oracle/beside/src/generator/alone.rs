@@ -2,15 +2,16 @@
 
 use super::{charges, grids};
 use crate::random::Random;
-use record::{Case, FORMS, RING_ENTRIES, RING_LENT};
+use record::{Case, Form, FORMS, RING_ENTRIES, RING_LENT};
 
-/// The ring at nets and the division of an LP amount's product have cases of their own, so that the
-/// others stay as they are.
+/// The ring at nets, the division of an LP amount's product and what takes a register have cases of their
+/// own, so that the others stay as they are.
 const AT_NETS: u64 = 36;
 const DIVISION: u64 = 24;
 
 pub fn case(random: &mut Random) -> Case {
-    let alone = FORMS.iter().filter(|form| !form.is_call() && ![AT_NETS, DIVISION].contains(&form.kind));
+    let of_their_own = |form: &Form| form.takes_list() || [AT_NETS, DIVISION].contains(&form.kind);
+    let alone = FORMS.iter().filter(|form| !form.is_call() && !of_their_own(form));
     let kinds: Vec<u64> = alone.map(|form| form.kind).chain([30, 30, 30]).collect();
     let kind = random.pick(&kinds);
     let columns = match kind {

@@ -10,6 +10,13 @@ pub fn case(random: &mut Random, draws: Draws) -> Case {
     arguments::call(random, &state, kind)
 }
 
+/// A deposit or a withdrawal.
+pub fn lp_case(random: &mut Random, draws: Draws) -> Case {
+    let state = state(random, draws);
+    let kind = random.pick(&[4, 5]);
+    arguments::call(random, &state, kind)
+}
+
 fn state(random: &mut Random, draws: Draws) -> State {
     let mut pool = match random.below(5) {
         0 => small(random),

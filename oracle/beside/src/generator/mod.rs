@@ -6,6 +6,7 @@ pub mod charges;
 pub mod grids;
 pub mod hand;
 pub mod list;
+pub mod registers;
 pub mod small;
 
 use crate::random::Random;
@@ -17,10 +18,19 @@ use record::Case;
 /// One division of an LP amount's product for so many cases of a seed, behind them all.
 pub const DIVISION_ONE_FOR: u64 = 20;
 
-/// So many cases of a seed, and the divisions behind them.
+/// One case that takes a register for so many of a seed, behind the divisions.
+pub const REGISTER_ONE_FOR: u64 = 5;
+
+/// So many cases of a seed, the divisions behind them, and then those that take a register.
 pub fn cases(seed: u64, count: u64) -> impl Iterator<Item = Case> {
     let divisions = divisions(seed).take((count / DIVISION_ONE_FOR) as usize);
-    Generator::new(seed).take(count as usize).chain(divisions)
+    let registers = registers::cases(seed).take((count / REGISTER_ONE_FOR) as usize);
+    Generator::new(seed).take(count as usize).chain(divisions).chain(registers)
+}
+
+/// How many cases that is.
+pub fn count(count: u64) -> u64 {
+    count + count / DIVISION_ONE_FOR + count / REGISTER_ONE_FOR
 }
 
 /// Divisions without end.

@@ -51,6 +51,9 @@ fn all() -> Vec<Choices> {
     all.extend([short_rings(), long_rings(), openings_at_grids()]);
     all.extend([2, 3].map(swaps_at_grids));
     all.extend(others_at_grids());
+    for list in lists() {
+        all.extend(with_list(&list));
+    }
     all
 }
 
@@ -302,6 +305,31 @@ fn openings_at_grids() -> Choices {
     columns.extend([vec![0, 10_000], vec![0], vec![0], vec![0]]);
     columns.extend([vec![0, 1, 2, 15, 3599, 3600, 3601, u64::MAX], vec![0, 1, 2, 3, 99, 100, 101, u64::MAX]]);
     Choices { kind: 1, columns }
+}
+
+/// The numbers of every list of up to three entries, and of one number more; and lists of up to two with
+/// balances at which a credit passes u64.
+fn lists() -> Vec<Vec<Vec<u64>>> {
+    let list = |numbers: usize, entry: [Vec<u64>; 2]| entry.into_iter().cycle().take(numbers).collect();
+    let small = (0..=6).map(|numbers| list(numbers, [to(3), to(2)]));
+    let great = [2, 4].map(|numbers| list(numbers, [to(3), vec![0, 1, u64::MAX - 1, u64::MAX]]));
+    small.chain(great).collect()
+}
+
+/// Calls with this list by holders 0 to 3, and the reading of their balances.
+fn with_list(list: &[Vec<u64>]) -> [Choices; 4] {
+    let behind =
+        |kind, columns: Vec<Vec<u64>>| Choices { kind, columns: [&columns[..], &[to(3)], list].concat() };
+    let mut opening = vec![vec![0, 101]; 2];
+    opening.extend([vec![0, 3], vec![0], vec![0], vec![0, 1_000_000]]);
+    opening.extend(vec![vec![0]; 8]);
+    opening.extend(USUAL_GRID.map(|number| vec![number]));
+    // Of 102 LP two can be withdrawn; vault 0 is full or not.
+    let mut pool = pool(WORKED);
+    (pool[0], pool[1], pool[8]) = (vec![204, u64::MAX], vec![204], vec![102]);
+    (pool[2], pool[9]) = (vec![0, u64::MAX - 204], vec![0, 3]);
+    let call = |limit: u64| [&pool[..], &[to(3), vec![limit], vec![limit]]].concat();
+    [behind(40, vec![]), behind(41, opening), behind(44, call(u64::MAX)), behind(45, call(0))]
 }
 
 impl Choices {

@@ -8,7 +8,7 @@ use crate::whole::{whole, ZERO};
 use record::{Pool, Receipt, State};
 
 /// Locked at the start; the supply counts them too.
-const LOCK_LP_AMOUNT: u64 = 100;
+pub(crate) const LOCK_LP_AMOUNT: u64 = 100;
 
 pub fn deposit(state: &State, lp: u64, maximums: [u64; 2]) -> Accepted {
     let pool = &state.pool;

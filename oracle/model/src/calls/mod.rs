@@ -1,7 +1,7 @@
 //! Document 01, 'The calls', with document 02 (a), (b), (c), (e) and (f): each is its steps in order,
 //! and the first that fails gives the number.
 
-mod liquidity;
+pub(crate) mod liquidity;
 mod opening;
 mod settlement;
 mod status;

@@ -1,9 +1,9 @@
--- `replay::row::pool_at` ends, and every place is in the row.
+-- `replay::row::record_at` ends, and every place is in the row.
 -- Assumes nothing.
 use Prim.Native.Nat.{_-_, _≤_}
 use borrow.Author.Needs.{needs}
-use Rattle.replay.proofs.row.pool_at.Statement.{statement}
-use Rattle.replay.proofs.row.pool_at.Tie as tie
+use Rattle.replay.proofs.row.record_at.Statement.{statement}
+use Rattle.replay.proofs.row.record_at.Tie as tie
 
 abbrev Inv-loop : tie.InvT-loop
 Inv-loop row at numbers₀ i₀ numbers i = i ≤ 27
@@ -38,14 +38,11 @@ loop-less c = search needs
 loop-again : tie.Need-loop-again Inv-loop μ-loop
 loop-again c = search needs
 
-pool-of-requires : tie.Need-pool-of-requires Inv-loop μ-loop
-pool-of-requires c κs = search needs
-
 returns : tie.Need-returns Inv-loop μ-loop
 returns c = search needs
 
-pub pool-at-spec : {M : Type 1} → statement M
-pool-at-spec =
+pub record-at-spec : {M : Type 1} → statement M
+record-at-spec =
     tie.close
     (tie.spec
     Inv-loop
@@ -59,5 +56,4 @@ pool-at-spec =
     add-i
     loop-less
     loop-again
-    pool-of-requires
     returns)

@@ -1,0 +1,4 @@
+pub mod Holders
+pub mod Changes
+pub mod Numbers
+pub mod Stages

@@ -1,0 +1,4 @@
+pub mod Called
+pub mod Seated
+pub mod Changed
+pub mod Opened
