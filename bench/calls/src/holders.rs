@@ -3,18 +3,20 @@
 use beside::random::Random;
 use record::{Call, LOCKED_LP};
 
-/// The port marks the numbers that it has met by their remainder modulo this.
-const MARKS: u64 = 3_001;
+/// Numbers that fall do so from here.
+const FIRST: u64 = 1_000;
 
 /// Which numbers the entries have; no two have the same.
-#[derive(Clone, Copy)]
+#[derive(Clone, Copy, PartialEq, Eq)]
 pub enum Numbers {
-    /// 1, 2, 3 and so on: no two have one remainder.
+    /// 1, 2, 3 and so on.
     InTurn,
-    /// Any of 64 bits: some have one remainder.
+    /// Any of 64 bits.
     Random,
-    /// Multiples of 3,001: all have one remainder.
-    OneRemainder,
+    /// Multiples of 1,024, the largest first.
+    Multiples,
+    /// Worked out from the sum of the balances, so that the port gives all of them one mark.
+    OneMark,
 }
 
 /// Who calls.
@@ -40,18 +42,21 @@ impl Numbers {
         match self {
             Numbers::InTurn => "in turn",
             Numbers::Random => "random",
-            Numbers::OneRemainder => "one remainder",
+            Numbers::Multiples => "multiples",
+            Numbers::OneMark => "one mark",
         }
     }
 
     /// From 1, and another at each place.
     fn at(self, random: &mut Random, place: usize) -> u64 {
         let turn = place as u64 + 1;
+        let back = FIRST - turn;
         match self {
             Numbers::InTurn => turn,
             // The lowest nine bits keep them apart.
             Numbers::Random => random.word() >> 9 << 9 | turn,
-            Numbers::OneRemainder => MARKS * turn,
+            Numbers::Multiples => back << 10,
+            Numbers::OneMark => back << 32,
         }
     }
 }
@@ -66,6 +71,9 @@ impl Register {
         let last = count - 1;
         let others: u64 = entries[..last].iter().map(|[_, balance]| balance).sum();
         entries[last][1] = if who == Who::New { 0 } else { supply - LOCKED_LP - others };
+        if numbers == Numbers::OneMark {
+            share_a_mark(&mut entries);
+        }
         let holder = if who == Who::Last { entries[last][0] } else { numbers.at(random, count) };
         Register { entries, holder }
     }
@@ -88,5 +96,27 @@ impl Register {
             }
         }
         entries
+    }
+}
+
+/// Moves each number on to the next one of the first mark, by the arithmetic of
+/// crates/register/src/marks.rt.
+fn share_a_mark(entries: &mut [[u64; 2]]) {
+    const SALTS: u64 = 2_147_483_646;
+    const STIR: u64 = 1_640_531_527;
+    const PRIME: u64 = 4_294_967_311;
+    let sum: u64 = entries.iter().map(|[_, balance]| balance).sum();
+    let folded = |n: u64| (n >> 32) + (n & 0xffff_ffff);
+    let salt = folded(sum) * STIR % SALTS + 1;
+    let itself = |n: u64| n * (n & 0x7fff_ffff);
+    let mark = |number: u64| {
+        let (low, high) = (number & 0xffff_ffff, number >> 32);
+        let mixed = (STIR + low * salt + high * (salt * salt % (SALTS + 1))) % PRIME;
+        itself(folded(itself(mixed))) >> 27 & 1_023
+    };
+    for [number, _] in entries {
+        while mark(*number) != 0 {
+            *number += 1;
+        }
     }
 }

@@ -10,11 +10,13 @@ use record::{Call, Pool};
 use std::hint::black_box;
 
 const COUNTS: [usize; 2] = [8, 256];
-/// A new holder's deposits are timed at the most entries only.
+/// A new holder's deposits, and numbers that share one mark, are timed at the most entries only.
 const MOST: usize = 256;
 const FULL: u64 = 16;
 /// A call with a register takes so much longer that a tenth of the batches does.
 const FEWER: usize = 10;
+/// Of numbers that share one mark so many times fewer do.
+const SLOWER: usize = 50;
 /// The cases take turns, so that what disturbs the machine for some seconds disturbs no case alone.
 const ROUNDS: usize = 20;
 
@@ -50,7 +52,7 @@ pub fn measured(random: &mut Random, batches: usize) -> String {
     for round in 1..=ROUNDS {
         eprintln!("with a register, {round} of {ROUNDS}");
         for (case, times) in &mut cases {
-            case.measure(random, (batches / FEWER / ROUNDS).max(1), times);
+            case.measure(random, case.of(batches / FEWER / ROUNDS).max(1), times);
         }
     }
     HEAD.to_string() + &cases.into_iter().map(|(case, times)| case.row(times)).collect::<String>()
@@ -61,10 +63,11 @@ fn cases() -> Vec<Case> {
     let mut cases = Vec::new();
     for kind in [1, 4, 5] {
         for count in COUNTS {
-            for numbers in [Numbers::InTurn, Numbers::Random, Numbers::OneRemainder] {
+            for numbers in [Numbers::InTurn, Numbers::Random, Numbers::Multiples] {
                 cases.push(Case { bench: bench(kind), who: Who::Last, count, numbers });
             }
         }
+        cases.push(Case { bench: bench(kind), who: Who::Last, count: MOST, numbers: Numbers::OneMark });
     }
     for who in [Who::New, Who::NoRoom] {
         for numbers in [Numbers::InTurn, Numbers::Random] {
@@ -80,6 +83,15 @@ impl Case {
             Who::Last => "",
             Who::New => ", new holder",
             Who::NoRoom => ", new holder, refused (16)",
+        }
+    }
+
+    /// Numbers of one mark are sought for long, and their calls take long.
+    fn of(&self, batches: usize) -> usize {
+        if self.numbers == Numbers::OneMark {
+            batches / SLOWER
+        } else {
+            batches
         }
     }
 

@@ -185,6 +185,24 @@ fn a_register_has_1_to_256_entries_and_each_number_once() {
 }
 
 #[test]
+fn a_number_twice_is_found_wherever_both_stand() {
+    for difference in [1, 1_024, 1_000_003, (1 << 55) + 1] {
+        let apart: Vec<[u64; 2]> = (1..=MOST_HOLDERS as u64).map(|turn| [turn * difference, 1]).collect();
+        let number = |entries: &[[u64; 2]]| plain::balance(entries.as_flattened(), 1, &mut 0);
+        assert_eq!(number(&apart), 0);
+        for second in 1..MOST_HOLDERS {
+            for first in 0..second {
+                let mut entries = apart.clone();
+                entries[second][0] = entries[first][0];
+                assert_eq!(number(&entries), 3, "{difference}: {first} and {second}");
+                entries[first][1] = 0;
+                assert_eq!(number(&entries), 0, "{difference}: {first}, free, and {second}");
+            }
+        }
+    }
+}
+
+#[test]
 fn a_holder_without_an_entry_has_nothing() {
     let register = register([(8, 0), (7, 10), (9, 0), (9, u64::MAX), (0, 0)]);
     let balances = [7, 8, 9, 10, u64::MAX].map(|holder| register.balance(holder));

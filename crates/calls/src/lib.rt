@@ -77,7 +77,8 @@ pub fn apply(pool: Pool, entries: &mut [u64; RING_WORDS], call: Call) -> After
     }
 }
 
-// Its contract is demand 1 of every call and every opening: a refused one leaves pool and ring as they were (specs/Refused.antt).
+// Its contract is demand 1 of every call and every opening: a refused one leaves pool and ring as they were, and one with a register its list
+// too (specs/Refused.antt).
 pub fn refusals_leave_all() -> bool
     ensures { λ r. ⌜ (r ≡ true) × RefusalsLeaveAll ⌝ }
 {

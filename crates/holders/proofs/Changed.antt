@@ -48,10 +48,10 @@ use denote.Triple.Walked.{says, Stays, gave-slice, stay-none, walkOf, goes-gave-
 use denote.Exit.{yes}
 use Rattle.refusal.specs.Tests.{first}
 use Rattle.register.specs.declared.Holder.{Holder}
-use Rattle.register.specs.declared.Change.{Change}
+use Rattle.seats.specs.declared.Change.{Change}
 use Rattle.register.proofs.Holder.Laws as H′
-use Rattle.register.proofs.Change as C
-use Rattle.register.proofs.Change.Laws as C′
+use Rattle.seats.proofs.Change as C
+use Rattle.seats.proofs.Change.Laws as C′
 use Rattle.holders.specs.declared.Register.{Register}
 use Rattle.holders.specs.Stages.{readable, listed, changeIn, numberOf, leftBy, Within}
 use Rattle.holders.proofs.Register as R

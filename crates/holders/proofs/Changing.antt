@@ -9,11 +9,11 @@ use borrow.Author.Tests.{ltb-false, eqb-false}
 use Rattle.refusal.specs.Tests.{Tests, first, outcome}
 use Rattle.refusal.proofs.Stops.{Passed, first-then, outcome-first, outcome-map, outcome-then, outcome-elim}
 use Rattle.register.specs.declared.Holder.{Holder}
-use Rattle.register.specs.declared.Change.the-variants.{Refused as Stays}
-use Rattle.register.specs.declared.Seating.the-variants.{Refused}
+use Rattle.seats.specs.declared.Change.the-variants.{Refused as Stays}
+use Rattle.seats.specs.declared.Seating.the-variants.{Refused}
 use Rattle.register.specs.Holders.{isOf, firstOf, balanceOf}
 use Rattle.register.specs.Changes.{registerTests, creditTests, credited, debitTests, debited, isFull, placeOf}
-use Rattle.register.specs.Stages.{seatIn, seatOf, creditOf, debitOf, changeOf}
+use Rattle.seats.specs.Stages.{seatIn, seatOf, creditOf, debitOf, changeOf}
 use Rattle.register.proofs.Laws.{place-in, same-place, not-full}
 use Rattle.holders.specs.Lent.{creditAnswers, creditLeaves, debitAnswers, debitLeaves}
 use Rattle.holders.specs.Stages.{readable, changeAt, changeIn, numberOf, leftBy, Within}

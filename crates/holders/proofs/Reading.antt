@@ -15,7 +15,7 @@ use Rattle.register.specs.declared.Holder.{Holder}
 use Rattle.register.specs.Holders.{MostHolders, zeroHolder}
 use Rattle.register.specs.Changes.{registerTests}
 use Rattle.register.specs.Numbers.{entriesOf, numbersOf}
-use Rattle.register.specs.Stages.{seatOf}
+use Rattle.seats.specs.Stages.{seatOf}
 use Rattle.register.proofs.Pairs.{entries-back}
 use Rattle.holders.specs.Stages.{readable}
 

@@ -21,13 +21,13 @@ use denote.Steps.{only}
 use denote.Struct.Laws as SL
 use denote.Enum.Laws as EL
 use Rattle.register.specs.declared.Holder.{Holder}
-use Rattle.register.specs.declared.Change.{Change}
-use Rattle.register.specs.declared.Change.the-variants.{Entry, Refused}
+use Rattle.seats.specs.declared.Change.{Change}
+use Rattle.seats.specs.declared.Change.the-variants.{Entry, Refused}
 use Rattle.register.specs.Holders.{zeroHolder}
 use Rattle.register.proofs.Holder as H₀
 use Rattle.register.proofs.Holder.Laws as H′
-use Rattle.register.proofs.Change as C
-use Rattle.register.proofs.Change.Laws as C′
+use Rattle.seats.proofs.Change as C
+use Rattle.seats.proofs.Change.Laws as C′
 use Rattle.holders.specs.declared.Register.{Register}
 use Rattle.holders.proofs.Register as R
 use Rattle.holders.proofs.Register.Laws as R′

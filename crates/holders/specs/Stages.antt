@@ -5,13 +5,13 @@ use mathlib.Core.List.{List, []}
 use lib.Dec.{ltb}
 use lib.ListN.{length, set, take}
 use Rattle.register.specs.declared.Holder.{Holder}
-use Rattle.register.specs.declared.Change.{Change}
-use Rattle.register.specs.declared.Change.the-variants.{Refused as Stays, Entry}
-use Rattle.register.specs.declared.Seating.{Seating}
-use Rattle.register.specs.declared.Seating.the-variants.{Refused, At}
+use Rattle.seats.specs.declared.Change.{Change}
+use Rattle.seats.specs.declared.Change.the-variants.{Refused as Stays, Entry}
+use Rattle.seats.specs.declared.Seating.{Seating}
+use Rattle.seats.specs.declared.Seating.the-variants.{Refused, At}
 use Rattle.register.specs.Holders.{MostHolders}
 use Rattle.register.specs.Numbers.{entriesOf}
-use Rattle.register.specs.Stages.{seatOf, changeOf}
+use Rattle.seats.specs.Stages.{seatOf, changeOf}
 use Rattle.holders.specs.declared.Register.{Register}
 
 -- of a list of over 256 entries none is read: it answers 3 as an empty one does

@@ -1,11 +1,11 @@
 // The register as a lent list of holder entries (document 01, 'Language forms by place'): a slice of small structs, with thin credit and debit
-// functions over the core, which is crate `register`.
+// functions over the core, which is crate `seats` over `register`.
 use refusal::ACCEPTED;
-use register::Change;
 use register::Holder;
 use register::MOST_HOLDERS;
-use register::Seating;
-use register::seat_of;
+use seats::Change;
+use seats::Seating;
+use seats::seat_of;
 ghost use mathlib.Core.Path.{_≡_};
 ghost use Prim.Native.Nat.{_≤_};
 ghost use lib.ListN.{length};

@@ -1,8 +1,9 @@
 pub mod Search
 pub mod Once
 pub mod Pairs
-pub mod Marks
+pub mod Walk
+pub mod Mixing
 pub mod Back
-pub mod Seats
+pub mod Rising
 pub mod Laws
 pub mod Valid

@@ -1,4 +1,4 @@
 pub mod Holders
 pub mod Changes
 pub mod Numbers
-pub mod Stages
+pub mod Marks

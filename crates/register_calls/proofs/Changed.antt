@@ -11,13 +11,13 @@ use Rattle.refusal.proofs.Stops.{Passed}
 use Rattle.liquidity.specs.Liquidity.{withdrawTests}
 use Rattle.receipt.specs.Receipt.{refusal}
 use Rattle.register.specs.declared.Holder.{Holder}
-use Rattle.register.specs.declared.Seat.{Seat}
-use Rattle.register.specs.declared.Seating.the-variants.{Refused, At}
-use Rattle.register.specs.declared.Change.the-variants.{Refused as Stays, Entry}
+use Rattle.seats.specs.declared.Seat.{Seat}
+use Rattle.seats.specs.declared.Seating.the-variants.{Refused, At}
+use Rattle.seats.specs.declared.Change.the-variants.{Refused as Stays, Entry}
 use Rattle.register.specs.Holders.{balanceOf}
 use Rattle.register.specs.Changes.{registerTests}
 use Rattle.register.specs.Numbers.{entriesOf, numbersOf}
-use Rattle.register.specs.Stages.{seatIn, seatOf, changeOf}
+use Rattle.seats.specs.Stages.{seatIn, seatOf, changeOf}
 use Rattle.calls.specs.Next.{State, stateOf, next}
 use Rattle.calls.specs.Registered.{Registered, holderOf, withoutRegister, entered}
 use Rattle.calls.proofs.Decisions.{decision}

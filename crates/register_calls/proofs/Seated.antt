@@ -10,15 +10,15 @@ use borrow.Author.Tests.{eqb-true, eqb-false, le-ltb, ne-eqb}
 use Rattle.refusal.specs.Tests.{Tests, first, outcome}
 use Rattle.refusal.proofs.Stops.{Passed, numbered, outcome-elim, outcome-all, outcome-stop, outcome-go}
 use Rattle.register.specs.declared.Holder.{Holder}
-use Rattle.register.specs.declared.Seat.{Seat}
-use Rattle.register.specs.declared.Seating.{Seating}
-use Rattle.register.specs.declared.Seating.the-variants.{Refused, At}
-use Rattle.register.specs.declared.Change.{Change}
-use Rattle.register.specs.declared.Change.the-variants.{Refused as Stays, Entry}
+use Rattle.seats.specs.declared.Seat.{Seat}
+use Rattle.seats.specs.declared.Seating.{Seating}
+use Rattle.seats.specs.declared.Seating.the-variants.{Refused, At}
+use Rattle.seats.specs.declared.Change.{Change}
+use Rattle.seats.specs.declared.Change.the-variants.{Refused as Stays, Entry}
 use Rattle.register.specs.Holders.{balanceOf}
 use Rattle.register.specs.Changes.{registerTests, creditTests, placeOf, credited, debitTests, debited}
 use Rattle.register.specs.Numbers.{entriesOf}
-use Rattle.register.specs.Stages.{seatIn, seatOf, creditOf, debitOf, changeOf}
+use Rattle.seats.specs.Stages.{seatIn, seatOf, creditOf, debitOf, changeOf}
 use Rattle.register.proofs.Laws.{place-in, owner-in, same-place}
 use Rattle.calls.specs.Registered.{lastTests, entered}
 use Rattle.register_calls.specs.Lent.{balanceMemory, balanceOn}

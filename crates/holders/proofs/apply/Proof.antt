@@ -45,13 +45,13 @@ use denote.Triple.Table.{entered}
 use denote.Triple.Walked.{says, needs, Stays, stay-slice, stay-none, walkOf, AllGo, goes-none, goes-slice, Walks, ends-at, walked, walk-meets}
 use denote.Exit.{yes}
 use Rattle.register.specs.declared.Holder.{Holder}
-use Rattle.register.specs.declared.Change.{Change}
-use Rattle.register.specs.declared.Change.the-variants.{Entry, Refused}
+use Rattle.seats.specs.declared.Change.{Change}
+use Rattle.seats.specs.declared.Change.the-variants.{Entry, Refused}
 use Rattle.register.specs.Holders.{zeroHolder}
 use Rattle.register.proofs.Holder as H₀
 use Rattle.register.proofs.Holder.Laws as H′
-use Rattle.register.proofs.Change as C
-use Rattle.register.proofs.Change.Laws as C′
+use Rattle.seats.proofs.Change as C
+use Rattle.seats.proofs.Change.Laws as C′
 use Rattle.holders.specs.Stages.{numberOf, leftBy, Within}
 use Rattle.holders.proofs.Spelled.{Row, spell, spell-change, OfChange, Lent, refused-holds, place-holds, entry-holds, byte-fits, holder-typed, change-typed, local}
 use Rattle.holders.proofs.apply.Key.{name as #holders·apply}

@@ -6,7 +6,8 @@ use lib.Dec.{eqb, ltb}
 use lib.ListN.{length}
 use Rattle.refusal.specs.Refusal.{InvalidInput}
 use Rattle.refusal.specs.Tests.{_then_, first}
-use Rattle.refusal.proofs.Stops.{first-stage, first-past}
+use Rattle.refusal.proofs.Stops.{first-stage, first-past, first-passed}
+use borrow.Author.Tests.{ltb-false}
 use Rattle.register.specs.Holders.{MostHolders}
 use Rattle.register.specs.Changes.{registerTests}
 use Rattle.register.specs.Numbers.{entriesOf}
@@ -32,7 +33,9 @@ unfolding registerTests _then_
 returns c = first-stage _ (_ ∷ _ ∷ []) _ (size (c .before)) (c .if1 .taken)
 
 numbered-requires : tie.Need-numbered-requires
-numbered-requires c κs = search needs
+numbered-requires c κs =
+    let passed = first-passed (_ ∷ _ ∷ []) refl (sym (c .if1 .left) ∙ size (c .before)) in
+    ltb-false _ _ (passed .1 .0)
 
 first2-requires-2 : tie.Need-first2-requires-2
 first2-requires-2 c κs = search needs
