@@ -21,7 +21,7 @@ const SALTS: u64 = 2_147_483_646;
 // Its square is taken modulo this prime, so it is not 0.
 const SQUARES: u64 = 2_147_483_647;
 
-// What stirs a sum to a salt, so that sums near each other give salts far apart, and begins a mark, so that no salt is a weak one.
+// What stirs a sum to a salt, so that sums near each other give salts far apart, and begins a mark, so that few salts are weak ones.
 const STIR: u64 = 1_640_531_527;
 
 // A number has two halves of 32 bits.
@@ -58,8 +58,8 @@ fn salt_of(numbers: &[u64]) -> u64
     folded(sum) * STIR % SALTS + 1
 }
 
-// The mark of a number: its lower half times the salt and its upper half times the salt's square, modulo the prime, multiplied twice by its own
-// lowest bits, and folded between. So numbers that have something in common share marks as others do.
+// The mark of a number: a constant, its lower half times the salt and its upper half times the salt's square, summed modulo the prime, multiplied
+// twice by its own lowest bits, and folded between. So numbers that have something in common share marks as others do, but for a few salts.
 fn mark_of(number: u64, salt: u64) -> usize
     requires { ⌜ salt < 2147483648 ⌝ }
     ensures { λ r. ⌜ (r ≡ markOf salt number) × (r < 1024) ⌝ }
@@ -116,8 +116,8 @@ fn apart(numbers: &[u64]) -> bool
     true
 }
 
-// Whether the numbers of the entries with a balance rise from entry to entry, from 1 on and below the last u64: then none stands twice. It is asked from the last entry
-// back.
+// Whether the numbers of the entries with a balance rise from entry to entry, from 1 on and below the last u64: then none stands twice. It is
+// asked from the last entry back.
 fn rising(numbers: &[u64]) -> bool
     ensures { λ r. ⌜ (r ≡ true → isNumbered (entriesOf (now (numbers .entry))) ≡ true) ⌝ }
 {
