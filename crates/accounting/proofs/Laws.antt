@@ -11,10 +11,14 @@ use Rattle.accounting.specs.declared.Books.{Books}
 use Rattle.accounting.specs.Counters.{ofToken, counters0, counters1, counterTests}
 use Rattle.accounting.specs.Booking.{booked, pastTests}
 
--- each vault covers its counters
-pub covered : (b : Books) → 0 ≡ first (counterTests b) → (counters0 (b .fees) ≤ b .vault0) × (counters1 (b .fees) ≤ b .vault1)
+-- the counters are within the vaults, so each net is a true difference
+pub record Covered (b : Books) : Type 0 where
+  pub covered0 : counters0 (b .fees) ≤ b .vault0
+  pub covered1 : counters1 (b .fees) ≤ b .vault1
+
+pub covered : (b : Books) → 0 ≡ first (counterTests b) → Covered b
 unfolding counterTests
-covered b e = let h = first-passed _ refl e in (omega (arith, facts, h), omega (arith, facts, h))
+covered b e = let h = first-passed _ refl e in record { covered0 = omega (arith, facts, h); covered1 = omega (arith, facts, h) }
 
 -- each counter has room for its fee
 pub room :

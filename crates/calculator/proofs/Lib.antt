@@ -1,2 +1,3 @@
 pub mod Swaps
 pub mod FairSwaps
+pub mod InTurn

@@ -1,3 +1,4 @@
 pub mod Rest
 pub mod Sent
 pub mod FarEnds
+pub mod Parts

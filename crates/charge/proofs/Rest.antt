@@ -4,13 +4,13 @@ use mathlib.Core.Path.{_≡_, refl, sym, _∙_}
 use mathlib.Core.Bool.{Bool, true, false, cond}
 use mathlib.Core.Logic.{inl, inr, ⊎-elim}
 use Prim.Native.Nat.{ℕ, zero, suc, _+_, _-_, _*_, _<_, _≤_, min}
-use native.Mathlib.Nat.{mul-le-mul-left, mul-le-mul-right, le-of-mul-le-mul-right, mul-zero}
+use native.Mathlib.Nat.{mul-le-mul-right, mul-zero}
 use native.Mathlib.Numerals.{add-one}
 use native.Mathlib.Omega.{arith}
 use lib.Dec.{ltb, eqb}
 use borrow.Author.Tests.{eqb-true, eqb-false, lt-ltb, le-ltb}
 use Rattle.divide.specs.Division.{ceilDiv}
-use Rattle.math.proofs.Rounding.{lt-or-le, ceil-ge, ceil-least, ceil-mono, share-ceil-le}
+use Rattle.math.proofs.Rounding.{lt-or-le, ceil-ge, ceil-least, ceil-mono, share-ceil-le, share-ceil-ge}
 use Rattle.refusal.specs.Tests.{U64, past}
 use Rattle.charge.specs.declared.Charge.{Charge}
 use Rattle.charge.specs.Charge.{TenThousand, chargeOn, restOf, chargeFor, leastSent}
@@ -53,6 +53,11 @@ module _ (c : Charge) (low : c .points < TenThousand) where
   share-le : (n : ℕ) → ceilDiv (n * c .points) TenThousand ≤ n
   share-le n = share-ceil-le n (c .points) TenThousand (omega arith)
 
+  -- so the charge is their share, up to the maximum
+  pub low-charge : (n : ℕ) → chargeOn c n ≡ min (ceilDiv (n * c .points) TenThousand) (c .maximum)
+  unfolding chargeOn
+  low-charge n = omega (arith, share-le n)
+
   share-within : (w k : ℕ) → ceilDiv ((w + k) * c .points) TenThousand ≤ k → ceilDiv (w * c .points) (TenThousand - c .points) ≤ k
   share-within w k =
       let whole : c .points + (TenThousand - c .points) ≡ TenThousand = omega arith in
@@ -88,7 +93,7 @@ module _ (c : Charge) (low : c .points < TenThousand) where
 module _ (c : Charge) (high : TenThousand ≤ c .points) where
   -- the points alone take at least all
   share-all : (n : ℕ) → n ≤ ceilDiv (n * c .points) TenThousand
-  share-all n = le-of-mul-le-mul-right {k = TenThousand} (omega (arith, ceil-ge (n * c .points) TenThousand (omega arith), mul-le-mul-left n high)) (omega arith)
+  share-all n = share-ceil-ge n (c .points) TenThousand (omega arith) high
 
   -- so the charge is all, up to the maximum
   pub high-charge : (n : ℕ) → chargeOn c n ≡ min (c .maximum) n

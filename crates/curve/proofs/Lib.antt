@@ -1,2 +1,3 @@
 pub mod LpTokens
 pub mod Edges
+pub mod InTurn

@@ -1,2 +1,3 @@
 pub mod ConstantProduct
 pub mod Stages
+pub mod InTurn

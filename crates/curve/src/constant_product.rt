@@ -12,11 +12,13 @@ use wide::U128;
 use wide::is_zero;
 use wide::widening_mul;
 use wide::wrapping_add;
+ghost use mathlib.Core.Bool.{true};
 ghost use mathlib.Core.Path.{_≡_};
 ghost use Prim.Native.Nat.{_+_, _*_, _<_};
 ghost use Rattle.wide.specs.Value.{value, u128Of};
 ghost use Rattle.refusal.specs.Refusal.{ZeroTradingTokens};
 ghost use Rattle.curve.specs.ConstantProduct.{swapBaseInputWithoutFees, swapBaseOutputWithoutFees, noQuotient, lpDivided, lpPart, lpTokensToTradingTokens};
+ghost use Rattle.curve.specs.InTurn.{InputsInTurn};
 ghost use Rattle.curve.specs.Stages.{rounded, tokensOf};
 
 // LP tokens are a count of their own, never summed with token 0 or token 1.
@@ -182,4 +184,11 @@ pub fn both(amount_0: Answer, amount_1: Answer) -> TradingTokenResult
             ),
         },
     }
+}
+
+// Its contract is that two inputs in turn give together no more than both at once, on any nets (specs/InTurn.antt).
+pub fn inputs_in_turn() -> bool
+    ensures { λ r. ⌜ (r ≡ true) × InputsInTurn ⌝ }
+{
+    true
 }

@@ -1,2 +1,3 @@
 pub mod Shares
 pub mod Edges
+pub mod Parts

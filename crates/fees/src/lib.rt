@@ -10,7 +10,9 @@ use share::scale_ceil;
 use share::share_ceil;
 use share::share_floor;
 use wide::widening_mul;
+ghost use mathlib.Core.Bool.{true};
 ghost use mathlib.Core.Path.{_≡_};
+ghost use Rattle.fees.specs.Parts.{FeesOfParts};
 ghost use Rattle.fees.specs.Fees.{split, ceilFee, floorFee, tradingFee, protocolFee, fundFee, creatorFee, creatorFeeSharedAmount, splitCreatorFee, calculatePreFeeAmount};
 
 // Rates are in millionths.
@@ -111,4 +113,12 @@ pub fn calculate_pre_fee_amount(post_fee_amount: u64, trade_fee_rate: u64) -> An
     let left = FEE_RATE_DENOMINATOR_VALUE - trade_fee_rate;
     let pre_fee_amount = scale_ceil(post_fee_amount, FEE_RATE_DENOMINATOR_VALUE, left);
     from_quotient(pre_fee_amount, ZERO_TRADING_TOKENS, MATH_OVERFLOW)
+}
+
+// Its contract: of an amount in two parts, the fees, rounded up, are together no less than the fee of the whole, and what is left of the parts is
+// together no more than what is left of the whole (specs/Parts.antt).
+pub fn fees_of_parts() -> bool
+    ensures { λ r. ⌜ (r ≡ true) × FeesOfParts ⌝ }
+{
+    true
 }

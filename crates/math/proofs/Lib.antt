@@ -2,3 +2,4 @@ pub mod Rounding
 pub mod Answers
 pub mod Halving
 pub mod Curve
+pub mod Parts

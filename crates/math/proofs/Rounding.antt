@@ -12,7 +12,6 @@ use borrow.Author.Tests.{lt-ltb, le-ltb, eq-eqb, ne-eqb}
 use Rattle.divide.specs.Division.{ceilDiv}
 use Rattle.divide.proofs.Digits.{once-less}
 use Rattle.divide.proofs.Long.{parted}
-use Rattle.math.specs.declared.ratio.Quotient.{Quotient}
 use Rattle.math.specs.declared.ratio.Quotient.the-variants as Q
 use Rattle.math.specs.Ratio.{fit, floorOf, ceilOf}
 
@@ -96,6 +95,14 @@ module _ (n d : ℕ) where
 pub ceil-mono : (n m d : ℕ) → n ≤ m → ceilDiv n d ≤ ceilDiv m d
 ceil-mono n m d h = floor-mono (n + (d - 1)) (m + (d - 1)) d (omega arith)
 
+-- of a sum it is at most those of its parts together
+pub ceil-sum : (n m d : ℕ) → ceilDiv (n + m) d ≤ ceilDiv n d + ceilDiv m d
+ceil-sum n m d =
+    ⊎-elim
+    (λ (e : d ≡ 0). rw (e, div-zero (n + m + (0 - 1))) (omega arith))
+    (λ p. ceil-least (n + m) d (ceilDiv n d + ceilDiv m d) (omega (arith, ceil-ge n d p, ceil-ge m d p)))
+    (eq-zero-or-pos d)
+
 -- by parts: k times a number, rounded up, is k times its quotient, and k times what is left divided anew
 pub ceil-parted : (n k d : ℕ) → 0 < d → ceilDiv (n * k) d ≡ n / d * k + ceilDiv (n % d * k) d
 ceil-parted n k d h =
@@ -115,7 +122,16 @@ share-floor-le amount rate whole h = le-trans (floor-le-ceil (amount * rate) who
 pub share-ceil-le : (amount rate whole : ℕ) → rate ≤ whole → ceilDiv (amount * rate) whole ≤ amount
 share-ceil-le amount rate whole h = ceil-least (amount * rate) whole amount (mul-le-mul-left amount h)
 
--- nor do two shares whose rates sum to at most the whole, both rounded down
+-- at a rate of the whole or more, a share rounded up is at least the amount
+pub share-ceil-ge : (amount rate whole : ℕ) → 0 < whole → whole ≤ rate → amount ≤ ceilDiv (amount * rate) whole
+share-ceil-ge amount rate whole p h =
+    le-of-mul-le-mul-right {k = whole} (le-trans (mul-le-mul-left amount h) (ceil-ge (amount * rate) whole p)) p
+
+-- a share of a sum, rounded up, is at most those of its parts together
+pub share-ceil-sum : (a b rate whole : ℕ) → ceilDiv ((a + b) * rate) whole ≤ ceilDiv (a * rate) whole + ceilDiv (b * rate) whole
+share-ceil-sum a b rate whole = let e : (a + b) * rate ≡ a * rate + b * rate = omega arith in rw e (ceil-sum (a * rate) (b * rate) whole)
+
+-- two shares whose rates sum to at most the whole, both rounded down, never pass the amount
 pub shares-le : (amount r s whole : ℕ) → r + s ≤ whole → amount * r / whole + amount * s / whole ≤ amount
 shares-le amount r s whole h =
     ⊎-elim

@@ -87,10 +87,10 @@ module _ (t : Terms) (b : Books) (ok : Swappable t b) (zeroIn fee : Bool) (amoun
     priced-charge h = ap (λ (p : Priced). p .charge) (priced-swapped h)
 
   -- what a fair swap pays out is within the net, and so within the vault
-  covers : (s : SwapResult) → Fair fee (netIn zeroIn b) (netOut zeroIn b) s → s .output ≤ ofToken zeroIn (b .vault1) (b .vault0)
-  covers s fair = omega (arith, fair .pays, fair .within, within-vault zeroIn)
+  covers : (d o : ℕ) (s : SwapResult) → Fair fee (netIn zeroIn b) (netOut zeroIn b) d o s → s .output ≤ ofToken zeroIn (b .vault1) (b .vault0)
+  covers d o s fair = omega (arith, fair .pays, fair .within, within-vault zeroIn)
 
   pub result-covered : (byInput : Bool) → Passed (tests byInput) → result byInput .output ≤ ofToken zeroIn (b .vault1) (b .vault0)
   unfolding quoteTests
-  result-covered true h = covers _ (input-fair _ _ _ _ (omega (arith, limited)) (limited .shares) fee amount)
-  result-covered false h = covers _ (output-fair _ _ _ _ (omega (arith, limited)) (limited .shares) fee amount (omega (arith, facts, h)))
+  result-covered true h = covers _ _ _ (input-fair _ _ _ _ (omega (arith, limited)) (limited .shares) fee amount)
+  result-covered false h = covers _ _ _ (output-fair _ _ _ _ (omega (arith, limited)) (limited .shares) fee amount (omega (arith, facts, h)))

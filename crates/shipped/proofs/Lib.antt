@@ -5,6 +5,7 @@ pub mod Day
 pub mod Holding
 pub mod Registers
 pub mod Library
+pub mod Slicing
 pub mod DayMemory
 pub mod Pieces
 pub mod Mixed

@@ -28,7 +28,7 @@ unfolding memoryAfter after
 after-holds m s [] h = h
 after-holds m s (c ∷ cs) h = after-holds (calledNext m c) (left (next s c)) cs (called-gave _ _ (m .receipt) s c h .point)
 
-receipts-read : (m : Memory) (s : State) (cs : List Call) → Holding (m .pool) (m .entries) s → receiptsIn m cs ≡ receipts s (map call cs)
+pub receipts-read : (m : Memory) (s : State) (cs : List Call) → Holding (m .pool) (m .entries) s → receiptsIn m cs ≡ receipts s (map call cs)
 unfolding receiptsIn receipts
 receipts-read m s [] h = refl
 receipts-read m s (c ∷ cs) h =

@@ -5,3 +5,4 @@ pub mod Day
 pub mod DayMemory
 pub mod Mixed
 pub mod Register
+pub mod Slicing

@@ -1,9 +1,10 @@
-// Demand 3 and document 02 (e) and (g) of what people run, each claim carried by a contract.
+// Demand 3 and document 02 (e), (g) and (h) of what people run, each claim carried by a contract.
 ghost use Rattle.shipped.specs.Day.{OpeningsSeen, DayTheorem, PrintedTheorem};
 ghost use Rattle.shipped.specs.DayMemory.{DayMemoryTheorem};
 ghost use Rattle.shipped.specs.Library.{LibraryTheorem};
 ghost use Rattle.shipped.specs.Mixed.{RowPoints, MixedTheorem};
 ghost use Rattle.shipped.specs.Register.{RegisterInMemory};
+ghost use Rattle.shipped.specs.Slicing.{SlicingInMemory};
 ghost use mathlib.Core.Bool.{true};
 ghost use mathlib.Core.Path.{_≡_};
 
@@ -32,6 +33,13 @@ pub fn mixed_theorem() -> bool
 // Of every list of the library's calls that keep one register, after an opening with it that is accepted (specs/Register.antt).
 pub fn register_theorem() -> bool
     ensures { λ r. ⌜ (r ≡ true) × RegisterInMemory ⌝ }
+{
+    true
+}
+
+// Of the library's swaps by input, an amount at once and in slices, on any memory (specs/Slicing.antt).
+pub fn slicing_in_memory() -> bool
+    ensures { λ r. ⌜ (r ≡ true) × SlicingInMemory ⌝ }
 {
     true
 }

@@ -6,16 +6,17 @@ use record::{LOCKED_LP, POOL_LENGTH};
 
 /// Where a receipt of the port has its numbers.
 const KIND: usize = 1;
-const DIRECTION: usize = 2;
+pub const DIRECTION: usize = 2;
 const CLOCK: usize = 3;
 const PAID_IN: [usize; 2] = [4, 5];
-const PAID_OUT: [usize; 2] = [6, 7];
+pub const PAID_OUT: [usize; 2] = [6, 7];
 const LP: usize = 8;
 const PROTOCOL_FEE: usize = 10;
 const FUND_FEE: usize = 11;
 const CREATOR_FEE: usize = 12;
 const CREATOR_FEE_TOKEN: usize = 13;
 const SHARED: [usize; 2] = [14, 15];
+pub const CHARGES: [usize; 2] = [16, 17];
 
 /// The vaults, the six counters, the supply and the newest sums.
 #[derive(Clone, Debug, PartialEq, Eq)]

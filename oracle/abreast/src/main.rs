@@ -9,6 +9,7 @@ mod registers;
 mod report;
 mod rings;
 mod sides;
+mod slices;
 mod tally;
 mod wide;
 
@@ -22,6 +23,9 @@ const USAGE: &str = "usage: abreast SEED COUNT | abreast small";
 /// For so many calls at points 0, spacing 15 and length 100 there is one on a pool with charges, and one on
 /// a pool with another spacing or length.
 const OTHER_ONE_FOR: u64 = 4;
+/// For so many calls there is one swap that is cut into slices; it takes about so many calls.
+const CUT_ONE_FOR: u64 = 20;
+const CALLS_OF_A_CUT: u64 = 4;
 /// At points 0, so that the original can be asked about all but the ring.
 const OTHER_GRID: Draws = Draws { charges: charges::none, grids: grids::other };
 const CHARGED: Draws = Draws { charges: charges::some, grids: grids::mixed };
@@ -54,17 +58,20 @@ fn all_small() -> Tally {
 }
 
 /// The edges, the bounds and the rows of docs/DIFFERENCES.md; then as many calls at points 0, spacing 15 and
-/// length 100 as are asked for, more on pools of another spacing or length, and more on pools with charges.
+/// length 100 as are asked for, more on pools of another spacing or length, and more on pools with charges;
+/// last swaps that are cut into slices, from a seed of their own.
 fn compared(seed: u64, count: u64) -> Tally {
-    let other = count / OTHER_ONE_FOR;
+    let (other, cuts) = (count / OTHER_ONE_FOR, count / CUT_ONE_FOR);
     let mut random = Random::new(seed);
-    let mut tally = Tally::of(count + 2 * other);
-    for case in [edges::cases(), bounds::cases(), differences::cases(), late::cases()].concat() {
+    let mut tally = Tally::of(count + 2 * other + CALLS_OF_A_CUT * cuts);
+    let chosen = [edges::cases(), edges::slice_cases(), bounds::cases(), differences::cases(), late::cases()];
+    for case in chosen.concat() {
         by_hand::run_case(&case, &mut tally);
     }
     generated(&mut random, Draws::USUAL, &mut tally, |tally| tally.on_pools[Group::Usual] >= count);
     generated(&mut random, OTHER_GRID, &mut tally, |tally| tally.on_pools[Group::OtherGrid] >= other);
     generated(&mut random, CHARGED, &mut tally, |tally| tally.on_pools[Group::Charged] >= other);
+    slices::run(&mut Random::new(!seed), cuts, &mut tally);
     tally
 }
 

@@ -31,17 +31,20 @@ pub fn page(tally: &Tally, command: &str) -> String {
 fn sentence(tally: &Tally, command: &str) -> String {
     format!(
         "`oracle/compare {command}`: {} calls in {:.0} s, {} of them on pools of another spacing or length and \
-         {} on pools with charges; {} take a register.\n\n{}\n{}\n{}\n{}\n{}",
+         {} on pools with charges; {} take a register, {} are slices of a swap or their whole.\n\n\
+         {}\n{}\n{}\n{}\n{}\n{}",
         grouped(tally.calls),
         tally.seconds(),
         grouped(tally.on_pools[Group::OtherGrid]),
         grouped(tally.on_pools[Group::Charged]),
         grouped(tally.registers.calls),
+        grouped(tally.slices.calls),
         port_side(tally),
         original_side(tally),
         ring_side(tally),
         register_side(tally),
         claims(tally),
+        slices(tally),
     )
 }
 
@@ -154,6 +157,26 @@ fn claims(tally: &Tally) -> String {
         grouped(tally.registers.points),
         grouped(tally.registers.changes),
         tally.claim_faults,
+    )
+}
+
+/// Slices in turn beside the whole.
+fn slices(tally: &Tally) -> String {
+    let found = &tally.slices;
+    format!(
+        "- slicing gains nothing, 02 (h), of {} swaps by input cut into 1 to 10 slices: {} with a slice refused and {} \
+         with the whole alone refused, of which nothing is claimed; {} accepted as a whole and in each of their {} \
+         slices, {} of these swaps with charges: together no more leaves the vault than for the whole, just as much {} \
+         times ({} of them in one slice), and no more is received; **{} failures**",
+        grouped(found.cuts),
+        grouped(found.slice_refused),
+        grouped(found.whole_refused),
+        grouped(found.accepted),
+        grouped(found.slices),
+        grouped(found.charged),
+        grouped(found.as_much),
+        grouped(found.single),
+        found.faults,
     )
 }
 

@@ -3,6 +3,7 @@
 use crate::registers::Registers;
 use crate::rings::Rings;
 use crate::sides::Fault;
+use crate::slices::Slices;
 use beside::generator::charges::most_arriving;
 use beside::left::{is_as_told, LeftCounts};
 use beside::page;
@@ -94,6 +95,7 @@ pub struct Tally {
     pub ring_rounds: Groups<u64>,
     pub rings: Rings,
     pub registers: Registers,
+    pub slices: Slices,
     pub points: u64,
     pub pairs: u64,
     /// Points with just the locked LP, and lists that end with one.
@@ -124,6 +126,7 @@ impl Tally {
             ring_rounds: Groups::default(),
             rings: Rings::default(),
             registers: Registers::default(),
+            slices: Slices::default(),
             points: 0,
             pairs: 0,
             drained_points: 0,
@@ -136,7 +139,11 @@ impl Tally {
     }
 
     pub fn is_clean(&self) -> bool {
-        self.port_faults + self.original_faults + self.claim_faults == 0
+        self.all_faults() == 0
+    }
+
+    fn all_faults(&self) -> u64 {
+        self.port_faults + self.original_faults + self.claim_faults + self.slices.faults
     }
 
     pub fn seconds(&self) -> f64 {
@@ -172,7 +179,7 @@ impl Tally {
     fn print_progress(&self) {
         let seconds = self.seconds();
         let left = self.wanted.saturating_sub(self.calls) as f64 * seconds / self.calls as f64;
-        let faults = self.port_faults + self.original_faults + self.claim_faults;
+        let faults = self.all_faults();
         eprintln!(
             "{} of {} calls, {faults} faults, {seconds:.0} s, {left:.0} s to go",
             self.calls, self.wanted
@@ -216,6 +223,11 @@ impl Tally {
     pub fn register_fault(&mut self, what: &str, case: &Case) {
         self.claim_faults += 1;
         self.keep(format!("02 (g): {what}"), case);
+    }
+
+    pub fn slices_fault(&mut self, what: String, case: &Case) {
+        self.slices.faults += 1;
+        self.keep(format!("02 (h): {what}"), case);
     }
 
     fn keep(&mut self, what: String, case: &Case) {

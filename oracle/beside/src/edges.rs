@@ -1,7 +1,8 @@
-//! Document 01's worked example and its edges, with document 02 (a), (b), (c), (e), (f) and (g), answered by both
-//! sides. Openings are added by document 01, so there the original has no answer.
+//! Document 01's worked example and its edges, with document 02 (a), (b), (c) and (e) to (h), answered by
+//! both sides. Openings are added by document 01, so there the original has no answer.
 
 mod register;
+mod slices;
 
 use crate::left::LeftCounts;
 use crate::verdict::{verdict, Side};
@@ -10,7 +11,7 @@ use runner::Outcome;
 
 /// What the rules say: a number, and some columns of the answer.
 struct Edge {
-    says: &'static str,
+    says: String,
     case: Case,
     number: u64,
     columns: Vec<(&'static str, u64)>,
@@ -31,16 +32,21 @@ const WORKED_OUTPUT: [&str; 3] = [
 /// Prints each edge; whether all are as the rules say.
 pub fn all() -> bool {
     let worked = worked_example();
-    let edges = edges();
+    let edges: Vec<Edge> = edges().into_iter().chain(slices::worked()).collect();
     let right = edges.iter().filter(|edge| edge.holds()).count();
     LeftCounts::of(edges.iter().map(|edge| &edge.case)).print();
     println!("{right} of {} edges as the rules say", edges.len());
     worked && right == edges.len()
 }
 
-/// The edges as cases, for the sample.
+/// The edges but those of slices, as cases for the sample.
 pub fn cases() -> Vec<Case> {
     edges().into_iter().map(|edge| edge.case).collect()
+}
+
+/// Those of slices.
+pub fn slice_cases() -> Vec<Case> {
+    slices::worked().into_iter().map(|edge| edge.case).collect()
 }
 
 fn edges() -> Vec<Edge> {
@@ -96,8 +102,8 @@ fn after(opening: &Case) -> State {
     model::run(&opening.state(), &opening.call().expect("an opening is a call")).state
 }
 
-fn edge(says: &'static str, case: Case, number: u64, columns: &[(&'static str, u64)]) -> Edge {
-    Edge { says, case, number, columns: columns.to_vec(), list: vec![] }
+fn edge(says: impl Into<String>, case: Case, number: u64, columns: &[(&'static str, u64)]) -> Edge {
+    Edge { says: says.into(), case, number, columns: columns.to_vec(), list: vec![] }
 }
 
 /// The worked day, and its edges with limits that a caller would give.

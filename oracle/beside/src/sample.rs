@@ -40,6 +40,8 @@ pub fn write(folder: &Path) -> io::Result<()> {
     let small = small::cases().filter(takes_list).filter(fits_row).step_by(SMALL_REGISTER_ONE_IN);
     small.for_each(|case| sample.keep(case));
     sample.fill_from(registers::cases(SEED).take(REGISTERS_SCANNED).filter(fits_row));
+    // Behind the others, whose rows and altered ones then stay as they are.
+    edges::slice_cases().into_iter().for_each(|case| sample.keep(case));
     sample.save(&folder.join("cases.txt"))?;
     sample.print_contents();
     Ok(())

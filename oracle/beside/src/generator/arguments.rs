@@ -88,7 +88,7 @@ fn swap_amount(random: &mut Random, state: &State, kind: u64, direction: u64) ->
     }
 }
 
-fn clock(random: &mut Random, state: &State) -> u64 {
+pub fn clock(random: &mut Random, state: &State) -> u64 {
     let (grid, mark, open_time) = (state.pool.grid, state.pool.head.mark, state.pool.open_time);
     let [entry_clock, ..] = entry_at(&state.ring, state.pool.head.index);
     let clock = match random.below(9) {

@@ -17,7 +17,7 @@ pub fn lp_case(random: &mut Random, draws: Draws) -> Case {
     arguments::call(random, &state, kind)
 }
 
-fn state(random: &mut Random, draws: Draws) -> State {
+pub fn state(random: &mut Random, draws: Draws) -> State {
     let mut pool = match random.below(5) {
         0 => small(random),
         1 => even(random),

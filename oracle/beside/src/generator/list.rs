@@ -31,6 +31,16 @@ impl List {
         self.state = after.state;
         case
     }
+
+    /// The pool that the next call leaves, with its ring; a refused opening leaves none.
+    pub fn next_pool(&mut self, random: &mut Random) -> State {
+        loop {
+            self.next_case(random);
+            if self.state.pool.supply > 0 {
+                return self.state.clone();
+            }
+        }
+    }
 }
 
 /// A list's next call on this state.

@@ -7,6 +7,7 @@ pub mod grids;
 pub mod hand;
 pub mod list;
 pub mod registers;
+pub mod slices;
 pub mod small;
 
 use crate::random::Random;
