@@ -1,5 +1,7 @@
 // What a pool has booked: the vaults, the LP supply, and the six fee counters, which it owes out of its vaults (the sums of the original's
 // states/pool.rs).
+#![tactic(auto)]
+
 ghost use Rattle.std.specs.Prelude.{◌≡◌, ◌+◌, ◌-◌, ◌≤◌};
 ghost use Rattle.refusal.specs.Tests.{first};
 ghost use Rattle.accounting.specs.Counters.{of_token, counter_tests, nets_answer};
@@ -10,7 +12,7 @@ use refusal::{ACCEPTED, INSUFFICIENT_VAULT, MATH_OVERFLOW, PANIC, first3, past_s
 // So many LP tokens are locked at the start; the supply counts them. After `lock_lp_amount` of the original's instruction `initialize`.
 pub const LOCK_LP_AMOUNT: u64 = 100;
 
-#[derive(Drop)]
+#[derive(Clone, Copy)]
 pub struct FeeCounters {
     pub protocol0: u64,
     pub protocol1: u64,
@@ -21,7 +23,7 @@ pub struct FeeCounters {
 }
 
 // What is booked. A vault is the whole balance of its token.
-#[derive(Drop)]
+#[derive(Clone, Copy)]
 pub struct Books {
     pub vault0: u64,
     pub vault1: u64,
@@ -30,7 +32,7 @@ pub struct Books {
 }
 
 // A swap's fees that are booked.
-#[derive(Drop)]
+#[derive(Clone, Copy)]
 pub struct SwapFees {
     pub protocol: u64,
     pub fund: u64,
@@ -38,14 +40,14 @@ pub struct SwapFees {
 }
 
 // The two nets, or a refusal's number.
-#[derive(Drop)]
+#[derive(Clone, Copy)]
 pub enum Nets {
     Of(u64, u64),
     Refused(u64),
 }
 
 // The counters after a booking, or a refusal's number.
-#[derive(Drop)]
+#[derive(Clone, Copy)]
 pub enum Booking {
     Booked(FeeCounters),
     Refused(u64),

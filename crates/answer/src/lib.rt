@@ -1,10 +1,12 @@
 // What a fee or the curve called alone answers: an amount, or the number of a refusal.
+#![tactic(auto)]
+
 ghost use Rattle.std.specs.Prelude.{◌≡◌};
 ghost use Rattle.answer.specs.Answer.{answer_of};
 
 use math::ratio::Quotient;
 
-#[derive(Drop)]
+#[derive(Clone, Copy)]
 pub enum Answer {
     Amount(u64),
     Refused(u64),

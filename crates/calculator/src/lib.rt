@@ -1,5 +1,7 @@
 // The swaps with fees (document 01, 'constant_product.rs, then calculator.rs', with document 02 (a)).
 // `net_in` is the net of the token that goes in, `net_out` of the other; `creator_rate` is the rate that counts, 0 unless the pool enables it.
+#![tactic(auto)]
+
 ghost use Rattle.std.specs.Prelude.{true, false, ◌≡◌, ◌+◌, ◌<◌, ◌≤◌};
 ghost use Rattle.math.specs.Ratio.{fit};
 ghost use Rattle.fees.specs.Fees.{million, pre_fee};
@@ -15,7 +17,7 @@ use share::{scale_ceil, share_ceil, share_floor};
 use wide::widening_mul;
 
 // What a swap moves and charges. `creator` is of the creator fee's token, the other fees are of the input.
-#[derive(Drop)]
+#[derive(Clone, Copy)]
 pub struct SwapResult {
     pub input: u64,
     pub output: u64,
@@ -26,7 +28,7 @@ pub struct SwapResult {
 }
 
 // The result, or the number of the refusal.
-#[derive(Drop)]
+#[derive(Clone, Copy)]
 pub enum SwapAnswer {
     Swapped(SwapResult),
     Refused(u64),

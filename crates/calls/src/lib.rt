@@ -1,4 +1,6 @@
 // One call of a list, and what it gives at a point; a refused one leaves pool and ring as they were.
+#![tactic(auto)]
+
 ghost use Rattle.std.specs.Prelude.{◌≡◌, true};
 ghost use Rattle.pool.specs.State.{done};
 ghost use Rattle.calls.specs.Next.{state_of, next};
@@ -9,7 +11,7 @@ use oracle::RING_WORDS;
 use pool::state::{After, Pool};
 
 // The six kinds of calls that a list may have, with their arguments.
-#[derive(Drop)]
+#[derive(Clone, Copy)]
 pub enum Call {
     SwapBaseInput {
         direction: u64,

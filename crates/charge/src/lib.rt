@@ -1,5 +1,7 @@
 // The charge that a token carries on each transfer (document 02 (c), with the names of the original's utils/token.rs): what it takes of an
 // amount that is sent, and the least that is sent so that an amount arrives.
+#![tactic(auto)]
+
 ghost use Rattle.std.specs.Prelude.{true, ◌&&◌, ◌≡◌, min, eqb};
 ghost use Rattle.accounting.specs.Counters.{of_token};
 ghost use Rattle.charge.specs.Charge.{charge_on, inverse_fee, no_charges, nothing_charged, charged_on};
@@ -17,28 +19,28 @@ use share::{scale_ceil, share_ceil};
 const MAX_FEE_BASIS_POINTS: u64 = 10_000;
 
 // A token's charge: points per 10,000 of what is sent, and the most that is charged.
-#[derive(Drop)]
+#[derive(Clone, Copy)]
 pub struct Charge {
     pub points: u64,
     pub maximum: u64,
 }
 
 // Both tokens'.
-#[derive(Drop)]
+#[derive(Clone, Copy)]
 pub struct Charges {
     pub token0: Charge,
     pub token1: Charge,
 }
 
 // What the transfers of a call were charged, each token's; 0 where none is meant.
-#[derive(Drop)]
+#[derive(Clone, Copy)]
 pub struct Charged {
     pub charge0: u64,
     pub charge1: u64,
 }
 
 // A transfer seen from one end: the amount at the other, and the charge; or a refusal's number and zeros.
-#[derive(Drop)]
+#[derive(Clone, Copy)]
 pub struct End {
     pub number: u64,
     pub amount: u64,
@@ -46,7 +48,7 @@ pub struct End {
 }
 
 // One of each token.
-#[derive(Drop)]
+#[derive(Clone, Copy)]
 pub struct Ends {
     pub number: u64,
     pub amount0: u64,

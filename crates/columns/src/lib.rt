@@ -1,4 +1,6 @@
 // Numbers in columns of the day sheet: decimal, right-justified, blanks before, at least one digit.
+#![tactic(auto)]
+
 ghost use Rattle.std.specs.Prelude.{◌≡◌, cond, ◌+◌, ◌*◌, ◌/◌, ◌%◌, ◌≤◌, ◌<◌, eqb, length, get_or, drop};
 ghost use Rattle.refusal.specs.Tests.{past};
 ghost use Rattle.columns.specs.Column.{blank, digit_byte, read_digits, in_range, read_column, column, has_room, with_column, formatted, placed};
@@ -8,7 +10,7 @@ const MAX_TENTH: u64 = u64::MAX / 10;
 // The last digit of 2^64 − 1.
 const MAX_LAST: u64 = u64::MAX % 10;
 
-#[derive(Drop)]
+#[derive(Clone, Copy)]
 pub enum Reading {
     Unreadable,
     Reads(u64),

@@ -1,5 +1,7 @@
 // Numbers in columns of rows: for each it prints the part that formatting hands back, then the whole row. Bytes beside the column are as
 // they were; of a row too short for it the part is empty and nothing is written.
+#![tactic(auto)]
+
 use columns::format_column;
 use libc::STDOUT_FILENO;
 

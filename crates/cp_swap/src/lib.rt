@@ -2,6 +2,8 @@
 // receipt, in the order of `words`. The pieces of memory of one call must be separate, aligned for their numbers and of full length:
 // this is taken for granted and not tested.
 // A call returns 0 and writes what it gives, or it returns its refusal's number and writes nothing but a receipt of it.
+#![tactic(auto)]
+
 pub mod day_sheet;
 pub mod registered;
 

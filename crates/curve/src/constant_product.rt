@@ -13,14 +13,14 @@ use refusal::{ACCEPTED, PANIC, ZERO_TRADING_TOKENS};
 use wide::{U128, is_zero, widening_mul, wrapping_add};
 
 // LP tokens are a count of their own, never summed with token 0 or token 1.
-#[derive(Drop)]
+#[derive(Clone, Copy)]
 pub struct LpTokens(pub u64);
 
-#[derive(Drop)]
+#[derive(Clone, Copy)]
 pub struct TradingTokens(pub u64);
 
 // An LP amount's product with a net, by the supply: quotient and remainder; or none, its number and zeros.
-#[derive(Drop)]
+#[derive(Clone, Copy)]
 pub struct LpDivided {
     pub number: u64,
     pub quotient: U128,
@@ -28,13 +28,13 @@ pub struct LpDivided {
 }
 
 // To round an LP amount's tokens down, or up where they are not 0.
-#[derive(Drop)]
+#[derive(Clone, Copy)]
 pub enum RoundDirection {
     Floor,
     Ceiling,
 }
 
-#[derive(Drop)]
+#[derive(Clone, Copy)]
 pub enum TradingTokenResult {
     Amounts(TradingTokens, TradingTokens),
     Refused(u64),

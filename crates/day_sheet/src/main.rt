@@ -1,4 +1,6 @@
 // The day sheet: rows from standard input, their answers to standard output, in constant memory.
+#![tactic(auto)]
+
 ghost use Rattle.std.specs.Prelude.{◌≡◌, ◌*◌, ◌≤◌, length, take};
 ghost use Rattle.rows.specs.Row.{row_bytes};
 ghost use Rattle.memory.specs.Steps.{IsRecord};

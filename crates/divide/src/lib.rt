@@ -1,4 +1,6 @@
 // A number of 128 bits divided by a u64, in digits of 32 bits.
+#![tactic(auto)]
+
 ghost use Rattle.std.specs.Prelude.{◌≡◌, ◌+◌, ◌*◌, ◌/◌, ◌^◌, ◌<◌, ◌≤◌};
 ghost use Rattle.wide.specs.Value.{value};
 ghost use Rattle.divide.specs.Division.{divided, divided_wide};
@@ -7,14 +9,14 @@ ghost use Rattle.wide.specs.Steps.{Divides, Less};
 use wide::U128;
 
 // A quotient that fits a u64, and the remainder.
-#[derive(Drop)]
+#[derive(Clone, Copy)]
 pub struct Divided {
     pub quotient: u64,
     pub remainder: u64,
 }
 
 // A quotient of up to 128 bits, and the remainder.
-#[derive(Drop)]
+#[derive(Clone, Copy)]
 pub struct DividedWide {
     pub quotient: U128,
     pub remainder: u64,

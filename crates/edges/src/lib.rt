@@ -1,5 +1,7 @@
 // Document 01's examples, each carried by a contract: its edges with the worked day, and its day sheet. Then what document 02 (a), (b), (c), (e)
 // and (f) mean for every call.
+#![tactic(auto)]
+
 ghost use Rattle.edges.specs.Closed.{ClosedBeforeNothing};
 ghost use Rattle.edges.specs.Edges.{edges, EdgesHold};
 ghost use Rattle.edges.specs.Example.{Example};

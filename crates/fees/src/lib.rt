@@ -1,4 +1,6 @@
 // The fees, `curve/fees.rs` of the original: shares of an amount at a rate in millionths.
+#![tactic(auto)]
+
 ghost use Rattle.std.specs.Prelude.{true, ◌≡◌};
 ghost use Rattle.fees.specs.Parts.{FeesOfParts};
 ghost use Rattle.fees.specs.Fees.{split, ceil_fee, floor_fee, trading_fee, protocol_fee, fund_fee, creator_fee, creator_fee_shared_amount, split_creator_fee, calculate_pre_fee_amount};

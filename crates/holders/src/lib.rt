@@ -1,5 +1,7 @@
 // The register as a lent list of holder entries (document 01, 'Language forms by place'): a slice of small structs, with thin credit and debit
 // functions over the core, which is crate `seats` over `register`.
+#![tactic(auto)]
+
 ghost use Rattle.std.specs.Prelude.{◌≡◌, ◌≤◌, length};
 ghost use Rattle.refusal.specs.Tests.{first};
 ghost use Rattle.register.specs.Changes.{with_opener};
@@ -11,7 +13,7 @@ use register::{Holder, MOST_HOLDERS};
 use seats::{Change, Seating, seat_of};
 
 // The list by value, as the core takes it: two numbers an entry.
-#[derive(Drop)]
+#[derive(Clone, Copy)]
 pub(crate) struct Register {
     numbers: [u64; 512],
     count: usize,

@@ -1,4 +1,6 @@
 // A day sheet comes out the same however its input is cut, carried by a contract.
+#![tactic(auto)]
+
 ghost use Rattle.however_cut.specs.HoweverCut.{HoweverCut, AllTaken, GoesOn, PiecesAreTheWhole};
 ghost use Rattle.std.specs.Prelude.{true, ◌≡◌};
 

@@ -1,4 +1,6 @@
 // The arithmetic one function at a time, for the benchmark: each beside what u128 does.
+#![tactic(auto)]
+
 ghost use Rattle.std.specs.Prelude.{◌≡◌, ◌+◌, ◌*◌, ◌/◌, ◌%◌, ◌^◌};
 ghost use Rattle.math.specs.Ratio.{floor_of, ceil_of};
 ghost use Rattle.root.specs.Root.{root};

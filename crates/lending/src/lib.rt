@@ -1,4 +1,6 @@
 // The six fee counters, lent by reference to the booking of a swap (document 01, 'Language forms by place').
+#![tactic(auto)]
+
 ghost use Rattle.std.specs.Prelude.{◌≡◌};
 ghost use Rattle.refusal.specs.Tests.{first};
 ghost use Rattle.accounting.specs.Booking.{booking_tests, booking_answer};

@@ -1,5 +1,7 @@
 // Deposits and withdrawals, decided over the tokens' charges, the status and the books: an LP amount's worth in both tokens is paid in, or paid
 // out.
+#![tactic(auto)]
+
 ghost use Rattle.std.specs.Prelude.{◌≡◌, ◌-◌, ◌≤◌, min, ltb};
 ghost use Rattle.refusal.specs.Tests.{first};
 ghost use Rattle.accounting.specs.Locked.{lock_lp_amount};

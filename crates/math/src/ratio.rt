@@ -7,7 +7,7 @@ use divide::{Divided, div_rem};
 use wide::{U128, widening_mul};
 
 // A quotient: it fits a u64, or is past one, or the divisor is 0.
-#[derive(Drop)]
+#[derive(Clone, Copy)]
 pub enum Quotient {
     Fits(u64),
     Past,
@@ -15,7 +15,7 @@ pub enum Quotient {
 }
 
 // The same with the remainder.
-#[derive(Drop)]
+#[derive(Clone, Copy)]
 pub enum Parts {
     Fits(Divided),
     Past,

@@ -1,4 +1,6 @@
 // Opening: the books, the terms and the ring's grid of a new pool, from two amounts.
+#![tactic(auto)]
+
 ghost use Rattle.std.specs.Prelude.{◌≡◌, ◌*◌};
 ghost use Rattle.root.specs.Root.{root};
 ghost use Rattle.refusal.specs.Tests.{first};
@@ -29,7 +31,7 @@ const LONGEST_SPACING: u64 = 3_600;
 const LEAST_LENGTH: u64 = 2;
 
 // The arguments of an opening. `enabled` is 0 or 1.
-#[derive(Drop)]
+#[derive(Clone, Copy)]
 pub struct Opening {
     pub amount0: u64,
     pub amount1: u64,
@@ -42,7 +44,7 @@ pub struct Opening {
 }
 
 // What a pool begins with, and the receipt.
-#[derive(Drop)]
+#[derive(Clone, Copy)]
 pub struct OpeningAfter {
     pub books: Books,
     pub terms: Terms,

@@ -1,5 +1,7 @@
 // The price ring: entries of a clock and two sums of prices (the original's states/oracle.rs). The pool says how far apart they are and how many
 // it uses (document 02 (f)); 100 are always lent.
+#![tactic(auto)]
+
 ghost use Rattle.std.specs.Prelude.{◌≡◌, cond, ◌<◌, eqb, length};
 ghost use Rattle.wide.specs.Value.{value};
 ghost use Rattle.oracle.specs.Ring.{observation_num, ring_words, price, entry_at, outside, seen as seenOf, with_entry, next_index, head, observed};
@@ -17,14 +19,14 @@ pub const RING_WORDS: usize = 500;
 
 // Where the entries stand: under `spacing` seconds since its clock the newest one is overwritten, and after `length` of them the first is written
 // again.
-#[derive(Drop)]
+#[derive(Clone, Copy)]
 pub struct Grid {
     pub spacing: u64,
     pub length: u64,
 }
 
 // The ring's head. `mark` is the original's last_update_timestamp. The entries are lent beside it, five numbers each.
-#[derive(Drop)]
+#[derive(Clone, Copy)]
 pub struct Ring {
     pub index: u64,
     pub mark: u64,
@@ -33,7 +35,7 @@ pub struct Ring {
 }
 
 // One entry, by value.
-#[derive(Drop)]
+#[derive(Clone, Copy)]
 pub struct Observation {
     pub clock: u64,
     pub sum0: U128,
@@ -41,7 +43,7 @@ pub struct Observation {
 }
 
 // What an update comes to, before anything is written: a refusal's number; a head, with nothing to store; or a head and the entry to store at its index.
-#[derive(Drop)]
+#[derive(Clone, Copy)]
 pub enum Update {
     Refused(u64),
     Kept(Ring),
@@ -49,7 +51,7 @@ pub enum Update {
 }
 
 // The head after an update, or a refusal's number with the head as it was.
-#[derive(Drop)]
+#[derive(Clone, Copy)]
 pub struct RingAfter {
     pub number: u64,
     pub ring: Ring,

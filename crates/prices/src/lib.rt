@@ -1,4 +1,6 @@
 // Reading the prices that the ring would count now.
+#![tactic(auto)]
+
 ghost use Rattle.std.specs.Prelude.{◌≡◌};
 ghost use Rattle.prices.specs.Prices.{prices_of, prices_answer};
 
@@ -9,7 +11,7 @@ use refusal::PANIC;
 use wide::U128;
 
 // Price 0 and price 1, with 32 bits after the point, or a refusal's number.
-#[derive(Drop)]
+#[derive(Clone, Copy)]
 pub enum Prices {
     Of(U128, U128),
     Refused(u64),

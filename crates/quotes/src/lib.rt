@@ -1,5 +1,7 @@
 // What a swap moves and charges, before anything is booked: both swaps' tests up to the caller's limit, and the calculator's answer.
 // By input: an exact amount in, and at least a limit out. By output: an exact amount out, and at most a limit in.
+#![tactic(auto)]
+
 ghost use Rattle.std.specs.Prelude.{◌≡◌};
 ghost use Rattle.refusal.specs.Tests.{first};
 ghost use Rattle.accounting.specs.Counters.{nets_answer};
@@ -16,7 +18,7 @@ use refusal::{
 };
 
 // What a swap moves at the vaults and charges, the nets before it, and the tokens' charges; or a refusal's number and zeros.
-#[derive(Drop)]
+#[derive(Clone, Copy)]
 pub struct Quote {
     pub number: u64,
     pub result: SwapResult,
@@ -26,7 +28,7 @@ pub struct Quote {
 }
 
 // The number of the tests on the nets and the model, and the nets.
-#[derive(Drop)]
+#[derive(Clone, Copy)]
 struct Ready {
     number: u64,
     net0: u64,
@@ -34,7 +36,7 @@ struct Ready {
 }
 
 // The number of the calculator's tests and of the limit's, what the swap moves and charges, and the charge on the transfer that it finds.
-#[derive(Drop)]
+#[derive(Clone, Copy)]
 struct Priced {
     number: u64,
     result: SwapResult,

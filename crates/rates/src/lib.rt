@@ -1,5 +1,7 @@
 // A pool's terms: its rates with their limits, its tokens' charges, its fee model and its open time (document 01, 'The calls' and
 // 'constant_product.rs, then calculator.rs', with document 02 (c)).
+#![tactic(auto)]
+
 ghost use Rattle.std.specs.Prelude.{◌≡◌};
 ghost use Rattle.refusal.specs.Tests.{first};
 ghost use Rattle.rates.specs.Rates.{rate_limits, rate_tests, creator_rate, on_input};
@@ -9,7 +11,7 @@ use fees::FEE_RATE_DENOMINATOR_VALUE;
 use refusal::{ACCEPTED, INVALID_INPUT};
 
 // A pool's rates, in millionths.
-#[derive(Drop)]
+#[derive(Clone, Copy)]
 pub struct Rates {
     pub trade: u64,
     pub protocol: u64,
@@ -19,7 +21,7 @@ pub struct Rates {
 }
 
 // What an opening sets for good. The flag stands last, so that all other fields are copied as whole numbers.
-#[derive(Drop)]
+#[derive(Clone, Copy)]
 pub struct Terms {
     pub rates: Rates,
     pub charges: Charges,

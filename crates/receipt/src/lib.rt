@@ -1,4 +1,6 @@
 // What a call shows of itself.
+#![tactic(auto)]
+
 ghost use Rattle.std.specs.Prelude.{◌≡◌};
 ghost use Rattle.receipt.specs.Receipt.{nothing_paid, no_trade, nothing_shared, refusal, refused_books, amounts};
 
@@ -21,7 +23,7 @@ pub const SETTLE_CREATOR_FEE: u64 = 6;
 pub const SET_STATUS: u64 = 7;
 
 // An accepted call's number is 0. A refused call's receipt holds its number and zeros.
-#[derive(Drop)]
+#[derive(Clone, Copy)]
 pub struct Receipt {
     pub number: u64,
     pub kind: u64,
@@ -32,7 +34,7 @@ pub struct Receipt {
 }
 
 // What reached the vaults and what left them, and the LP tokens that were issued or burnt.
-#[derive(Drop)]
+#[derive(Clone, Copy)]
 pub struct Paid {
     pub in0: u64,
     pub in1: u64,
@@ -42,7 +44,7 @@ pub struct Paid {
 }
 
 // What only a swap has.
-#[derive(Drop)]
+#[derive(Clone, Copy)]
 pub struct Trade {
     pub direction: u64,
     pub clock: u64,
@@ -54,14 +56,14 @@ pub struct Trade {
 }
 
 // The shared parts of a settlement.
-#[derive(Drop)]
+#[derive(Clone, Copy)]
 pub struct Shared {
     pub shared0: u64,
     pub shared1: u64,
 }
 
 // What a call comes to that changes the books alone: the books after it, and its receipt.
-#[derive(Drop)]
+#[derive(Clone, Copy)]
 pub struct BooksAfter {
     pub books: Books,
     pub receipt: Receipt,

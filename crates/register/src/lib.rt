@@ -1,5 +1,7 @@
 // The register of holders (document 02 (g)): the list as plain numbers, two an entry, its number and its balance; what a call with it tests
 // first.
+#![tactic(auto)]
+
 mod marks;
 
 ghost use Rattle.std.specs.Prelude.{◌≡◌, ◌+◌, ◌≤◌, length, slice_index_or};
@@ -16,7 +18,7 @@ pub const MOST_HOLDERS: usize = 256;
 
 // An entry: a holder's number, from 1, and his LP balance. One of balance 0 is free for anyone.
 #[repr(C)]
-#[derive(Drop)]
+#[derive(Clone, Copy)]
 pub struct Holder {
     pub number: u64,
     pub balance: u64,

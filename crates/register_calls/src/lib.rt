@@ -1,5 +1,7 @@
 // Opening, deposit and withdrawal with a register (document 02 (g)), over plain memory: its list is lent beside record, ring and receipt, two
 // numbers an entry. A call returns 0 and writes what it gives, or it returns its refusal's number and writes nothing but a receipt of it.
+#![tactic(auto)]
+
 ghost use Rattle.std.specs.Prelude.{◌≡◌, ◌<◌, length, set, replicate};
 ghost use Rattle.register.specs.Changes.{with_opener};
 ghost use Rattle.seats.specs.Stages.{seat_of};

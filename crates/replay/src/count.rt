@@ -7,7 +7,7 @@ use std::num::wrapping_add_u64;
 // What a row has for a side where its answer is altered.
 const ALTERED: u64 = 3;
 
-#[derive(Drop)]
+#[derive(Clone, Copy)]
 pub struct Count {
     pub kind: u64,
     pub rows: u64,

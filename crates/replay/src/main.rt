@@ -1,5 +1,7 @@
 // Replays oracle/sample/cases.txt: each row is a call or a function with the answer that it must give. For each kind of row it prints how
 // many there are, how many of them have an altered answer, with which nothing may agree, and how many agree.
+#![tactic(auto)]
+
 mod alone;
 mod count;
 mod on_pool;
@@ -33,7 +35,7 @@ fn agrees(row: &[u64; ROW_NUMBERS]) -> bool {
 }
 
 // How far the input is read, and whether there is more.
-#[derive(Drop)]
+#[derive(Clone, Copy)]
 pub struct Progress {
     pub reading: Reading,
     pub count: Count,

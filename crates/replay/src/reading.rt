@@ -1,7 +1,7 @@
 // Decimal numbers with one blank between, a newline at the end of a row.
 use crate::row::ROW_NUMBERS;
 
-#[derive(Drop)]
+#[derive(Clone, Copy)]
 pub struct Reading {
     pub row: [u64; ROW_NUMBERS],
     pub count: usize,

@@ -1,4 +1,6 @@
 // Whole square roots by Newton's iteration from above: an opening's supply is the whole root of its product.
+#![tactic(auto)]
+
 ghost use Rattle.std.specs.Prelude.{◌≡◌};
 ghost use Rattle.root.specs.Root.{root};
 ghost use Rattle.wide.specs.Value.{value};

@@ -10,7 +10,7 @@ pub const LINE_BYTES: usize = 102;
 // A row with its newline. Of a row that is begun no more bytes are kept.
 pub const ROW_BYTES: usize = LINE_BYTES + 1;
 
-#[derive(Drop)]
+#[derive(Clone, Copy)]
 pub enum Row {
     Unreadable,
     Row {

@@ -1,5 +1,7 @@
 // A holder's seat in a register (document 02 (g)): his balance and the place of his entry, or of the first free one; and what a credit and a debit
 // change.
+#![tactic(auto)]
+
 ghost use Rattle.std.specs.Prelude.{◌≡◌};
 ghost use Rattle.register.specs.Holders.{is_of, is_free, first_of};
 ghost use Rattle.register.specs.Numbers.{entries_of};
@@ -10,7 +12,7 @@ use register::{Holder, count_of, entry_at, register_number};
 
 // What a list holds for a holder: his balance, with the place of his entry. Where he has none, the place is that of the first free one; the
 // list is full where there is no such entry either.
-#[derive(Drop)]
+#[derive(Clone, Copy)]
 pub struct Seat {
     pub holder: u64,
     pub balance: u64,
@@ -19,14 +21,14 @@ pub struct Seat {
 }
 
 // A list that is no register, or a holder 0, 3; or the holder's seat.
-#[derive(Drop)]
+#[derive(Clone, Copy)]
 pub enum Seating {
     Refused(u64),
     At(Seat),
 }
 
 // A refusal's number, or the one entry that changes: its place, and what then stands there.
-#[derive(Drop)]
+#[derive(Clone, Copy)]
 pub enum Change {
     Refused(u64),
     Entry(usize, Holder),

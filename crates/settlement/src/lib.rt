@@ -1,5 +1,7 @@
 // Settlement, decided over the books: the creators are paid out of the vaults, and the protocol gets its share (the original's
 // creator_fee_share.rs and settle_creator_fee).
+#![tactic(auto)]
+
 ghost use Rattle.std.specs.Prelude.{◌≡◌, ◌≤◌};
 ghost use Rattle.settlement.specs.Settlement.{settlement_receipt, settlement_after};
 ghost use Rattle.settlement.specs.Stages.{paid_out};

@@ -1,4 +1,6 @@
 // Parts of an amount at a rate, as rate / whole of it (floor_div and ceil_div of the original's curve/fees.rs). The whole has at most 33 bits, so u64 is wide enough throughout.
+#![tactic(auto)]
+
 ghost use Rattle.std.specs.Prelude.{◌&&◌, ◌≡◌, ◌*◌, ◌/◌, ◌^◌, ◌≤◌, ◌<◌, ltb, leb};
 ghost use Rattle.divide.specs.Division.{ceil_div};
 ghost use Rattle.math.specs.Ratio.{ceil_of};

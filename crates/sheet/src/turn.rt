@@ -33,7 +33,7 @@ const DAY_SPACING: u64 = 15;
 const DAY_LENGTH: u64 = 100;
 
 // The two amounts of an answer.
-#[derive(Drop)]
+#[derive(Clone, Copy)]
 pub struct Amounts {
     pub first: u64,
     pub second: u64,

@@ -1,4 +1,6 @@
 // Demand 3 and document 02 (e), (g) and (h) of what people run, each claim carried by a contract.
+#![tactic(auto)]
+
 ghost use Rattle.shipped.specs.Day.{OpeningsSeen, DayTheorem, PrintedTheorem};
 ghost use Rattle.shipped.specs.DayMemory.{DayMemoryTheorem};
 ghost use Rattle.shipped.specs.Library.{LibraryTheorem};

@@ -1,5 +1,7 @@
 // Document 02 (h): a swap by input that is cut into slices gives no more than the whole at once. Carried by a contract, as demand 3 is by crate
 // `history`.
+#![tactic(auto)]
+
 ghost use Rattle.slicing.specs.Slicing.{GainsNothingWithCharges, SlicingGainsNothing};
 ghost use Rattle.slicing.specs.Worked.{WorkedSlices};
 ghost use Rattle.std.specs.Prelude.{true, ◌≡◌};

@@ -1,4 +1,6 @@
 // A status change on the status alone: what it leaves of the status, and its receipt.
+#![tactic(auto)]
+
 ghost use Rattle.std.specs.Prelude.{◌≡◌, ◌≤◌};
 ghost use Rattle.status.specs.Status.{flagged, status_after};
 
@@ -7,7 +9,7 @@ use receipt::{Receipt, SET_STATUS, amounts_receipt, refusal_receipt};
 use refusal::{ACCEPTED, INVALID_INPUT, first2};
 
 // The status after a change, and the receipt.
-#[derive(Drop)]
+#[derive(Clone, Copy)]
 pub struct StatusAfter {
     pub status: u64,
     pub receipt: Receipt,

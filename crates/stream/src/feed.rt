@@ -20,14 +20,14 @@ use sheet::turn::{amounts_of, perform};
 use words::{POOL_WORDS, RECEIPT_WORDS, holdings_of, receipt_of};
 
 // Between two pieces: the rates for the next opening, and how many bytes are held of a row that is begun.
-#[derive(Drop)]
+#[derive(Clone, Copy)]
 pub struct Going {
     pub rates: Rates,
     pub begun: usize,
 }
 
 // After a piece: 0, how many of its bytes were taken, and how many bytes were written; or the number of a record that is no pool.
-#[derive(Drop)]
+#[derive(Clone, Copy)]
 pub struct Fed {
     pub number: u64,
     pub going: Going,
@@ -36,7 +36,7 @@ pub struct Fed {
 }
 
 // After the end of the input: 0, and how many bytes were written; or the number of a record that is no pool.
-#[derive(Drop)]
+#[derive(Clone, Copy)]
 pub struct Ended {
     pub number: u64,
     pub rates: Rates,
@@ -44,7 +44,7 @@ pub struct Ended {
 }
 
 // After the last whole row of a piece: a row is begun at `from`, and the piece is taken up to `end`.
-#[derive(Drop)]
+#[derive(Clone, Copy)]
 struct Rest {
     rates: Rates,
     from: usize,

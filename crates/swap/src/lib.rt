@@ -1,5 +1,7 @@
 // Both swaps, decided over a pool's terms, status and books, the ring's head and its newest entry, which is read last. Nothing is written.
 // By input: an exact amount in, and at least a limit out. By output: an exact amount out, and at most a limit in.
+#![tactic(auto)]
+
 ghost use Rattle.std.specs.Prelude.{◌≡◌, ◌+◌, ◌≤◌};
 ghost use Rattle.refusal.specs.Tests.{u64_max};
 ghost use Rattle.accounting.specs.Counters.{of_token};
@@ -21,7 +23,7 @@ use receipt::{
 use refusal::{ACCEPTED, MATH_OVERFLOW, first1, past_sum};
 
 // What a swap comes to: books and head after it, its receipt, and what the ring's entries get. A refused swap's books and head are as they were.
-#[derive(Drop)]
+#[derive(Clone, Copy)]
 pub struct SwapAfter {
     pub books: Books,
     pub ring: Ring,

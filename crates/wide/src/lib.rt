@@ -1,15 +1,17 @@
 // What `u128` does for the Rust, on a number of 128 bits as two u64 halves: products and sums. Quotients are crate `divide`.
+#![tactic(auto)]
+
 ghost use Rattle.std.specs.Prelude.{◌≡◌, ◌+◌, ◌*◌, ◌==◌};
 ghost use Rattle.wide.specs.Value.{value, u128_of, product_of};
 
-#[derive(Drop)]
+#[derive(Clone, Copy)]
 pub struct U128 {
     pub high: u64,
     pub low: u64,
 }
 
 // A product that has 128 bits, or more than that.
-#[derive(Drop)]
+#[derive(Clone, Copy)]
 pub enum Product {
     Fits(U128),
     Past,

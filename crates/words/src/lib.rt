@@ -1,5 +1,7 @@
 // The pool's record with its ring's head, and its receipt, as plain numbers, in a fixed order: what document 02 adds stands behind what was
 // there.
+#![tactic(auto)]
+
 ghost use Rattle.std.specs.Prelude.{◌≡◌, cond, ◌+◌, ◌-◌, drop};
 ghost use Rattle.words.specs.Words.{pool_words, receipt_words, rates_of, opening_of, pool_of, receipt_of, holdings_of, share_of, begins_with};
 
@@ -33,7 +35,7 @@ const SHARE_AT: usize = 17;
 pub const USED_AT: usize = 18;
 
 // The nets, 0 where the counters are above the vault, and the supply.
-#[derive(Drop)]
+#[derive(Clone, Copy)]
 pub struct Holdings {
     pub net0: u64,
     pub net1: u64,

@@ -1,4 +1,6 @@
 // An LP amount's worth in both tokens, for deposits and withdrawals (document 01, 'Deposit' and 'Withdrawal').
+#![tactic(auto)]
+
 ghost use Rattle.std.specs.Prelude.{◌≡◌};
 ghost use Rattle.worth.specs.Worth.{token_amounts, rounding as roundingOf, refused_worth, worth_of};
 
@@ -10,7 +12,7 @@ use refusal::{ACCEPTED, PANIC, ZERO_TRADING_TOKENS};
 use wide::is_zero;
 
 // The nets, and each token's part of them; or a refusal's number with zeros.
-#[derive(Drop)]
+#[derive(Clone, Copy)]
 pub struct Worth {
     pub number: u64,
     pub net0: TradingTokens,

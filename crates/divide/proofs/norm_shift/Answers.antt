@@ -1,8 +1,7 @@
 -- `divide::norm_shift` meets its contract: with k the place of the top set bit, the count of leading zeros makes 64 with k + 1.
 use Rattle.std.proofs.Common.{◌≡◌, ℕ, suc, ◌+◌, ◌*◌, ◌^◌, ◌<◌, ◌≤◌, sym, ap, ◌∙◌, subst, mul-le-mul_right, arith, pow-add, shl_lt}
 use lib.Count.{count_leading_zeros, leading_top}
-use Rattle.divide.proofs.norm_shift.Statement.{statement}
-use Rattle.divide.proofs.norm_shift.Tie as tie
+use Rattle.divide.proofs.norm_shift.Goals as goal
 
 normalized : (a k s : ℕ) → 2 ^ k ≤ a → a < 2 ^ suc k → s + suc k ≡ 64 → (2 ^ 63 ≤ a * 2 ^ s) × (a * 2 ^ s < 2 ^ 64) × (s < 64)
 normalized a k s low high e =
@@ -13,11 +12,8 @@ normalized a k s low high e =
       omega arith,
     )
 
-returns : tie.Need-returns
+pub returns : goal.returns
 returns c =
     let d = c.args.d in
     let top = leading_top 64 d c.requires c.ranges.d.fits in
     normalized d top.0 (count_leading_zeros 64 d) top.2 top.3 top.1
-
-pub norm_shift_spec : {M : Type 1} → statement M
-norm_shift_spec = tie.close (tie.spec returns)
