@@ -1,0 +1,16 @@
+-- `fees::ceil_div` meets its contract: a rate of at most the whole gives a fee that fits.
+use mathlib.Core.Path.{ap, ◌∙◌}
+use native.Mathlib.Omega.{arith}
+use Rattle.answer.specs.Answer.{answer_of}
+use Rattle.fees.specs.Fees.{ceil_fee, fee_up}
+use Rattle.refusal.specs.Tests.{outcome}
+use Rattle.answer.proofs.Answers.{ceil_answer}
+use Rattle.fees.proofs.Shares.{ceil_fee_fits}
+use Rattle.fees.proofs.ceil_div.Goals as goal
+
+pub returns-then-rate-le-FEE_RATE_DENOMINATOR_VALUE : goal.returns-then-rate-le-FEE_RATE_DENOMINATOR_VALUE
+returns-then-rate-le-FEE_RATE_DENOMINATOR_VALUE c = ceil_fee_fits _ _ (omega arith) (omega arith) _ c.share_ceil.ensures
+
+pub returns : goal.returns
+unfolding ceil_fee fee_up outcome
+returns c = c.from_quotient.ensures ∙ ap (answer_of 4 8) c.mul_div_ceil-fee.ensures ∙ ceil_answer 4 8 _ _
