@@ -9,8 +9,6 @@ use native.Mathlib.Nat.{add_comm, add-mul-div_right}
 use native.Mathlib.Omega.{arith}
 use lib.Dec.{eqb}
 use borrow.Author.Tests.{lt-ltb, le-ltb, eq-eqb, ne_eqb, eqb-true, eqb-false, ltb-true, ltb-false}
-use types.Run.{OneOf}
-use denote.Enum.Declared.{tag_of}
 use Rattle.divide.specs.Division.{ceil_div}
 use Rattle.math.specs.declared.ratio.Quotient.{Quotient}
 use Rattle.math.specs.declared.ratio.Quotient.TheVariants as Q
@@ -64,15 +62,12 @@ told_fits q n m e f =
 
 -- another case than `Fits`
 abbrev pub Other : Quotient → Type 0
-Other q = OneOf (1 ∷ 2 ∷ []) (tag_of the_type q)
-
-fits_no_other : (q : Quotient) (m : ℕ) → q ≡ Q.Fits m → Other q → ⊥
-fits_no_other q m e t = ⊎_elim (λ h. omega arith) (λ h. omega arith) (subst (λ (p : Quotient). Other p) e t)
+Other q = (m : ℕ) → q ≡ Q.Fits m → ⊥
 
 told_past : (q : Quotient) (n : ℕ) → q ≡ fit n → Other q → u64_max < n
 told_past q n e t =
     ⊎_elim
-    (λ (l : n < 2 ^ 64). absurd (fits_no_other q n (e ∙ fit_fits n l) t))
+    (λ (l : n < 2 ^ 64). absurd (t n (e ∙ fit_fits n l)))
     (λ (l : 2 ^ 64 ≤ n). omega arith)
     (lt_or_le n (2 ^ 64))
 
@@ -122,7 +117,7 @@ module _ (c : Charge) (w : ℕ) (q : Quotient) (e : q ≡ sent_by_points c.point
       far high = go (eqb w 0) refl
         where
           go : (b : Bool) → eqb w 0 ≡ b → AtMost c w
-          go true z = absurd (fits_no_other q 0 (e ∙ sym (by_none c.points w high (eqb-true w 0 z))) t)
+          go true z = absurd (t 0 (e ∙ sym (by_none c.points w high (eqb-true w 0 z))))
           go false z =
               let g : charge_for c w ≡ c.maximum = rw z at (high_for c high w) in
               record { over = omega arith; is = omega arith }
