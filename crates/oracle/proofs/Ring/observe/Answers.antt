@@ -10,7 +10,7 @@ use Rattle.oracle.proofs.Ring.observe.Goals as goal
 
 -- at or before the mark, or past it and at or before the newest
 either : (clock mark newest : ℕ) → (clock ≤ mark) ⊎ ((mark < clock) × (clock ≤ newest)) → leb clock mark || leb clock newest ≡ true
-either clock mark newest e = ⊎_elim (λ h. simp (le-leb clock mark h)) (λ h. simp (lt-leb mark clock h.0, le-leb clock newest h.1)) e
+either clock mark newest e = ⊎_elim (λ h. simp (le-leb clock mark h)) (λ h. simp (lt-leb clock mark h.0, le-leb clock newest h.1)) e
 
 pub returns-then-outside : goal.returns-then-outside
 returns-then-outside c = no_entry _ _ _ _ _ (sym c.is_outside-outside.ensures ∙ c.if-outside.true)
