@@ -9,12 +9,9 @@ use native.Mathlib.Nat.{le_trans, le-div_iff_mul-le, mul-le-mul_left}
 use native.Mathlib.Omega.{arith}
 use lib.Dec.{eqb}
 use borrow.Author.Tests.{lt-ltb, le-ltb, lt-leb, ne_eqb}
-use types.Run.{OneOf}
-use denote.Enum.Declared.{tag_of}
 use Rattle.divide.specs.Division.{ceil_div}
 use Rattle.math.specs.declared.ratio.Quotient.{Quotient}
 use Rattle.math.specs.declared.ratio.Quotient.TheVariants as Q
-use Rattle.math.specs.contracts.ratio.Quotient.{the_type}
 use Rattle.math.specs.Ratio.{fit, ceil_of}
 use Rattle.math.proofs.Rounding.{lt_or_le, floor_le_ceil, share_ceil_le, fit_fits, fit_past, ceil_is}
 use Rattle.refusal.specs.Refusal.{panicked}
@@ -82,15 +79,12 @@ told_fits q n m e f =
     (λ (l : 2 ^ 64 ≤ n). let g = fit_past n l in let z : ◌≡◌ {A = ℕ} 0 1 = cc in absurd (omega arith))
     (lt_or_le n (2 ^ 64))
 
-pub told_past : (q : Quotient) (n : ℕ) → q ≡ fit n → OneOf (1 ∷ 2 ∷ []) (tag_of the_type q) → u64_max < n
+pub told_past : (q : Quotient) (n : ℕ) → q ≡ fit n → ((m : ℕ) → q ≡ Q.Fits m → ⊥) → u64_max < n
 told_past q n e t =
     ⊎_elim
-    (λ (l : n < 2 ^ 64). absurd (never (subst (λ (p : Quotient). OneOf (1 ∷ 2 ∷ []) (tag_of the_type p)) (e ∙ fit_fits n l) t)))
+    (λ (l : n < 2 ^ 64). absurd (t n (e ∙ fit_fits n l)))
     (λ (l : 2 ^ 64 ≤ n). omega arith)
     (lt_or_le n (2 ^ 64))
-  where
-    never : OneOf (1 ∷ 2 ∷ []) 0 → ⊥
-    never t = ⊎_elim (λ h. omega arith) (λ h. omega arith) t
 
 -- ---- by input: the result, by the split where the fee is on input
 module _ (rates : Rates) (creatorRate netIn netOut amount : ℕ) where

@@ -22,7 +22,7 @@ use Rattle.receipt.specs.Kind.{set_status_kind as statusKind}
 use Rattle.settlement.specs.Settlement.{settlement_tests, settlement_receipt, settled, settlement_at, settlement_after}
 use Rattle.worth.specs.Worth.{amount_tests, part}
 use Rattle.liquidity.specs.Liquidity.{deposit_tests, deposited, deposit_at, deposit_after, paid, withdraw_tests, withdrawn, withdraw_at, withdraw_after}
-use Rattle.opening.specs.declared.Opening.{opening_kind}
+use Rattle.opening.specs.declared.Opening.{Opening}
 use Rattle.opening.specs.declared.OpeningAfter.{OpeningAfter}
 use Rattle.opening.specs.Opening.{supply_of, opening_tests, books_with, opened_terms, refused_opening, opening_after}
 use Rattle.quotes.specs.Quotes.{vault_amount, charged_of, result_of}
@@ -30,7 +30,7 @@ use Rattle.swap.specs.Swap.{last_tests, input_tests, output_tests, swap_tests, r
 use Rattle.pool.specs.State.{net0, net1, start_with, refused, booked_in, standing_in, swapped_in, Done, done_of}
 use Rattle.pool.specs.Calls.{zero_pool, zero_entries, opening, decision_of, swap_base_input, swap_base_output, deposit, withdraw, settlement, set_status}
 use Rattle.calls.specs.declared.Call.{Call}
-use Rattle.calls.specs.declared.Call.TheVariants.{SwapBaseInput, SwapBaseOutput, Deposit, Withdraw, Settle, set_status_kind}
+use Rattle.calls.specs.declared.Call.TheVariants.{SwapBaseInput, SwapBaseOutput, Deposit, Withdraw, Settle, SetStatus}
 use Rattle.calls.specs.Next.{State, besides, next}
 
 -- ---- the tests of a call at a point, and what it gives past all of them
@@ -107,7 +107,7 @@ decision s (Settle share) =
       tests = settlement_tests shared0 shared1 b share;
       accepted = besides s.entries (booked_in p (settled shared0 shared1 p.terms.charges b));
     }
-decision s (set_status_kind bit flag) = record {
+decision s (SetStatus bit flag) = record {
   tests = status_tests bit flag;
   accepted =
       besides s.entries
@@ -121,7 +121,7 @@ abbrev pub accepted_of : State → Call → Done
 accepted_of s c = (decision s c).accepted
 
 -- the opening
-unfoldable pub opening_decision : opening_kind → Decision
+unfoldable pub opening_decision : Opening → Decision
 opening_decision o = record {
   tests = opening_tests o;
   accepted =
@@ -179,9 +179,9 @@ call_decides s (SwapBaseOutput direction amount maximum clock) = decides s (λ a
 call_decides s (Deposit lp maximum0 maximum1) = decides s (λ a. besides s.entries (booked_in s.pool a)) _ _ _ refl refl refl refl refl
 call_decides s (Withdraw lp owned minimum0 minimum1) = decides s (λ a. besides s.entries (booked_in s.pool a)) _ _ _ refl refl refl refl refl
 call_decides s (Settle share) = decides s (λ a. besides s.entries (booked_in s.pool a)) _ _ _ refl refl refl refl refl
-call_decides s (set_status_kind bit flag) = decides s (λ a. besides s.entries (standing_in s.pool a)) _ _ _ refl refl refl refl refl
+call_decides s (SetStatus bit flag) = decides s (λ a. besides s.entries (standing_in s.pool a)) _ _ _ refl refl refl refl refl
 
-pub opening_decides : (o : opening_kind) → Decides zero_state (opening_decision o) (opening o)
+pub opening_decides : (o : Opening) → Decides zero_state (opening_decision o) (opening o)
 unfolding opening opening_decision opening_after opening_tests ◌then◌ refused_opening zero_pool refused amounts
 opening_decides o =
     decides zero_state (λ (a : OpeningAfter). besides zero_entries (record { pool = start_with a.books a.terms a.grid; receipt = a.receipt })) _ _ _ refl refl refl refl refl

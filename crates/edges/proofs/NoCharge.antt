@@ -29,7 +29,7 @@ use Rattle.status.specs.Status.{bit}
 use Rattle.settlement.specs.Settlement.{settlement_tests, settlement_receipt, settled, settlement_at, settlement_after}
 use Rattle.worth.specs.Worth.{amount_tests, part}
 use Rattle.liquidity.specs.Liquidity.{deposit_tests, deposited, deposit_at, deposit_after, paid, withdraw_tests, withdrawn, withdraw_at, withdraw_after}
-use Rattle.opening.specs.declared.Opening.{opening_kind}
+use Rattle.opening.specs.declared.Opening.{Opening}
 use Rattle.opening.specs.declared.OpeningAfter.{OpeningAfter}
 use Rattle.opening.specs.Opening.{supply_of, least_supply, highest_points, grid_tests, opening_tests, books_with, opened_terms, refused_opening, opening_after}
 use Rattle.quotes.specs.Quotes.{net_in, net_out, charge_in, charge_out, result_of, looked, front_tests, net_tests}
@@ -246,7 +246,7 @@ free_settlement c b share free =
       receipt = settlement_receipt out0 out1 shared0 shared1 (charged i);
     })
 
-free_opening : (o : opening_kind) → Free o.charges → opening_after o ≡ plain_opening o
+free_opening : (o : Opening) → Free o.charges → opening_after o ≡ plain_opening o
 unfolding opening_after opening_tests rate_tests rate_limits ◌then◌ outcome
 free_opening o free = λ i. open_with (free.0 i) (free.1 i)
   where

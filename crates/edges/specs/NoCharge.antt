@@ -24,7 +24,7 @@ use Rattle.status.specs.Status.{bit}
 use Rattle.settlement.specs.Settlement.{settlement_tests, settlement_receipt, settled, settlement_after}
 use Rattle.worth.specs.Worth.{amount_tests, part}
 use Rattle.liquidity.specs.Liquidity.{deposited, deposit_after, paid, withdrawn, withdraw_after}
-use Rattle.opening.specs.declared.Opening.{opening_kind}
+use Rattle.opening.specs.declared.Opening.{Opening}
 use Rattle.opening.specs.declared.OpeningAfter.{OpeningAfter}
 use Rattle.opening.specs.Opening.{supply_of, least_supply, grid_tests, books_with, opened_terms, refused_opening, opening_after}
 use Rattle.quotes.specs.Quotes.{net_in, net_out, result_of, front_tests, net_tests}
@@ -116,7 +116,7 @@ plain_settlement b share =
       receipt = settlement_receipt (b.fees.creator0 - shared0) (b.fees.creator1 - shared1) shared0 shared1 nothing_charged;
     })
 
-abbrev pub plain_opening : opening_kind → OpeningAfter
+abbrev pub plain_opening : Opening → OpeningAfter
 plain_opening o =
     outcome
     ((eqb o.amount0 0, empty_supply)
@@ -152,4 +152,4 @@ pub record NoChargeNoChange : Type 0 where
       (c : Charges) (status : ℕ) (b : Books) (lp owned minimum0 minimum1 : ℕ) → Free c
       → withdraw_after c status b lp owned minimum0 minimum1 ≡ plain_withdrawal status b lp owned minimum0 minimum1
   pub settlements : (c : Charges) (b : Books) (share : ℕ) → Free c → settlement_after c b share ≡ plain_settlement b share
-  pub openings : (o : opening_kind) → Free o.charges → opening_after o ≡ plain_opening o
+  pub openings : (o : Opening) → Free o.charges → opening_after o ≡ plain_opening o

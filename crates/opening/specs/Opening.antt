@@ -15,11 +15,11 @@ use Rattle.accounting.specs.declared.Books.{Books}
 use Rattle.accounting.specs.Counters.{zero_counters}
 use Rattle.receipt.specs.Kind.{opening_kind as kind}
 use Rattle.receipt.specs.Receipt.{refusal, amounts}
-use Rattle.opening.specs.declared.Opening.{opening_kind}
+use Rattle.opening.specs.declared.Opening.{Opening}
 use Rattle.opening.specs.declared.OpeningAfter.{OpeningAfter}
 
 -- supply is the whole root of the product
-abbrev pub supply_of : opening_kind → ℕ
+abbrev pub supply_of : Opening → ℕ
 supply_of o = root (o.amount0 * o.amount1)
 
 -- a supply below this is refused, so that with 100 locked (document 02 (e)) the opener gets at least 1
@@ -48,7 +48,7 @@ grid_tests grid =
 
 -- an amount 0 gives 6; model 9; enabled not 0 or 1, trade + creator above 999,999, protocol + fund above 1,000,000, share above
 -- 1,000,000, points above 9,999, spacing or length out of range gives 3; supply below 101 gives 13
-unfoldable pub opening_tests : opening_kind → Tests
+unfoldable pub opening_tests : Opening → Tests
 opening_tests o =
     (eqb o.amount0 0, empty_supply)
     ∷ (eqb o.amount1 0, empty_supply)
@@ -67,7 +67,7 @@ opening_tests o =
 abbrev pub books_with : ℕ → ℕ → ℕ → Books
 books_with amount0 amount1 supply = record { vault0 = amount0; vault1 = amount1; fees = zero_counters; supply = supply }
 
-abbrev pub opened_terms : opening_kind → Terms
+abbrev pub opened_terms : Opening → Terms
 opened_terms o = record {
   rates = o.rates;
   charges = o.charges;
@@ -90,7 +90,7 @@ unfoldable pub refused_opening : ℕ → OpeningAfter
 refused_opening n = record { books = books_with 0 0 0; terms = zero_terms; grid = zero_grid; receipt = refusal n }
 
 -- its amounts are those that arrived, and bear no charge
-unfoldable pub opening_after : opening_kind → OpeningAfter
+unfoldable pub opening_after : Opening → OpeningAfter
 opening_after o =
     outcome (opening_tests o) refused_opening
     (record {
