@@ -69,6 +69,7 @@ fn read_digits(bytes: &[u8], from: usize) -> Reading
 }
 
 // The number of a column, whatever its bytes and however many: no zero before a digit, at most 2^64 − 1.
+#[tactic(auto, using(crate::proofs::ColumnRead::none_left, crate::proofs::ColumnRead::zero_at, crate::proofs::ColumnRead::number_at))]
 pub fn read_column(bytes: &[u8]) -> Reading
     ensures { result ≡ read_column bytes.now }
 {
