@@ -3,56 +3,57 @@
 #![tactic(auto)]
 
 use columns::format_column;
-use libc::STDOUT_FILENO;
+use std::io;
 
-fn text(words: &[u8]) {
-    io::write_all(STDOUT_FILENO, words);
+fn text(out: &impl Print, words: &[u8]) -> io::Result<()> {
+    out.write_all(words)
 }
 
 // A number in a column of the caller's row.
-fn show(row: &mut [u8], at: usize, value: u64) {
-    text(b"part [");
+fn show(out: &impl Print, row: &mut [u8], at: usize, value: u64) -> io::Result<()> {
+    text(out, b"part [")?;
     let part = format_column(row, at, value);
-    text(part);
-    text(b"] row [");
-    text(row);
-    text(b"]\n");
+    text(out, part)?;
+    text(out, b"] row [")?;
+    text(out, row)?;
+    text(out, b"]\n")
 }
 
 // Rows of 30 bytes: the first place, one within, the last, and past it.
-fn places() {
+fn places(out: &impl Print) -> io::Result<()> {
     let mut first = *b"abcdefghijklmnopqrstuvwxyzABCD";
-    show(&mut first, 0, 0);
+    show(out, &mut first, 0, 0)?;
     let mut within = *b"abcdefghijklmnopqrstuvwxyzABCD";
-    show(&mut within, 3, u64::MAX);
+    show(out, &mut within, 3, u64::MAX)?;
     let mut last = *b"abcdefghijklmnopqrstuvwxyzABCD";
-    show(&mut last, 10, 10000000000000000000);
+    show(out, &mut last, 10, 10000000000000000000)?;
     let mut past = *b"abcdefghijklmnopqrstuvwxyzABCD";
-    show(&mut past, 11, 5);
+    show(out, &mut past, 11, 5)?;
     let mut far = *b"abcdefghijklmnopqrstuvwxyzABCD";
-    show(&mut far, usize::MAX, 5);
+    show(out, &mut far, usize::MAX, 5)
 }
 
 // A row as long as the column, one shorter, and one of no bytes.
-fn lengths() {
+fn lengths(out: &impl Print) -> io::Result<()> {
     let mut whole = *b"abcdefghijklmnopqrst";
-    show(&mut whole, 0, 1234567890);
+    show(out, &mut whole, 0, 1234567890)?;
     let mut shorter = *b"abcdefghijklmnopqrs";
-    show(&mut shorter, 0, 1234567890);
+    show(out, &mut shorter, 0, 1234567890)?;
     let mut none = *b"";
-    show(&mut none, 0, 7);
+    show(out, &mut none, 0, 7)
 }
 
 // One number after another in one row.
-fn sheet() {
+fn sheet(out: &impl Print) -> io::Result<()> {
     let mut row = *b"........................................";
-    show(&mut row, 0, 9);
-    show(&mut row, 20, 99);
-    show(&mut row, 10, 18446744073709551609);
+    show(out, &mut row, 0, 9)?;
+    show(out, &mut row, 20, 99)?;
+    show(out, &mut row, 10, 18446744073709551609)
 }
 
-fn main() {
-    places();
-    lengths();
-    sheet();
+fn main(rt: HostRuntime) -> io::Result<()> {
+    let out = rt.stdout();
+    places(&out)?;
+    lengths(&out)?;
+    sheet(&out)
 }
