@@ -8,9 +8,10 @@ ghost use Rattle.sheet.specs.Lent.{sheet_in};
 ghost use Rattle.stream.specs.Pieces.{feed, left_by};
 ghost use Rattle.stream.specs.Lent.{fed_memory, left_words};
 
-use libc::{STDIN_FILENO, STDOUT_FILENO};
 use oracle::RING_WORDS;
 use rows::row::ROW_BYTES;
+use std::io;
+use std::io::Read;
 use stream::feed::{Fed, Going, feed, finish, start};
 use words::POOL_WORDS;
 
@@ -20,16 +21,23 @@ const BLOCK_BYTES: usize = 8192;
 // Room for an answer to each of them, since each may end a row.
 const ANSWER_BYTES: usize = BLOCK_BYTES * ROW_BYTES;
 
-fn fail_to_read() {
-    os::fail(b"standard input");
+// What failed, on standard error; that this may fail too changes nothing.
+fn fail(rt: &impl Eprint, what: &str, error: io::Error) {
+    let _ = eprintln!(rt; "{what}: {error}");
 }
 
-fn write_rows(rows: &[u8]) -> bool {
-    if io::write_all(STDOUT_FILENO, rows) {
-        return true;
+fn fail_to_read(rt: &impl Eprint, error: io::Error) {
+    fail(rt, "standard input", error);
+}
+
+fn write_rows(rt: &(impl Print + Eprint), rows: &[u8]) -> bool {
+    match rt.write_all(rows) {
+        Ok(()) => true,
+        Err(error) => {
+            fail(rt, "standard output", error);
+            false
+        }
     }
-    os::fail(b"standard output");
-    false
 }
 
 // Answers all rows that a block ends: there is room for an answer to each of its bytes.
@@ -49,6 +57,7 @@ fn answer_block(
 
 // The last row, where bytes follow the last newline.
 fn answer_last(
+    rt: &(impl Print + Eprint),
     going: Going,
     pool: &mut [u64; POOL_WORDS],
     ring: &mut [u64; RING_WORDS],
@@ -59,11 +68,12 @@ fn answer_last(
     let mut output = [0u8; ROW_BYTES];
     let ended = finish(going, pool, ring, held, &mut output);
     let written = ended.written;
-    write_rows(&output[..written]);
+    write_rows(rt, &output[..written]);
 }
 
 // Nothing is written after a failure. The turns only bound the loop.
-fn main() {
+fn main(rt: HostRuntime) {
+    let mut stdin = rt.stdin();
     let mut pool = [0u64; POOL_WORDS];
     let mut ring = [0u64; RING_WORDS];
     let mut held = [0u8; ROW_BYTES];
@@ -73,14 +83,15 @@ fn main() {
     let mut turns = u64::MAX;
     while turns > 0 {
         turns -= 1;
-        let got = libc::read(STDIN_FILENO, &mut input);
-        if got < 0 {
-            fail_to_read();
-            return;
-        }
-        let n = io::count(got, &input);
+        let n = match stdin.read(&mut input) {
+            Ok(n) => n,
+            Err(error) => {
+                fail_to_read(&rt, error);
+                return;
+            }
+        };
         if n == 0 {
-            answer_last(going, &mut pool, &mut ring, &held);
+            answer_last(&rt, going, &mut pool, &mut ring, &held);
             return;
         }
         let fed = answer_block(
@@ -93,7 +104,7 @@ fn main() {
         );
         going = fed.going;
         let written = fed.written;
-        if !write_rows(&output[..written]) {
+        if !write_rows(&rt, &output[..written]) {
             return;
         }
     }

@@ -1,7 +1,7 @@
 // How many rows of one kind there are, how many of them are altered, and how many agree.
 use crate::row::{ROW_NUMBERS, nth};
 use columns::format_column;
-use libc::STDOUT_FILENO;
+use std::io;
 use std::num::wrapping_add_u64;
 
 // What a row has for a side where its answer is altered.
@@ -15,19 +15,22 @@ pub struct Count {
     pub agree: u64,
 }
 
-fn text(words: &[u8]) {
-    io::write_all(STDOUT_FILENO, words);
+fn text(out: &impl Print, words: &[u8]) -> io::Result<()> {
+    out.write_all(words)
 }
 
 // A number in 20 bytes: what is printed is the part that formatting hands back.
-fn number(value: u64) {
+fn number(out: &impl Print, value: u64) -> io::Result<()> {
     let mut row = [b'.'; 30];
     let part = format_column(&mut row, 5, value);
-    io::write_all(STDOUT_FILENO, part);
+    text(out, part)
 }
 
-pub(crate) fn heading() {
-    text(b"                kind                rows             altered               agree\n");
+pub(crate) fn heading(out: &impl Print) -> io::Result<()> {
+    text(
+        out,
+        b"                kind                rows             altered               agree\n",
+    )
 }
 
 fn one_if(flag: bool) -> u64 {
@@ -44,33 +47,38 @@ impl Count {
         }
     }
 
-    pub(crate) fn show(self) {
-        number(self.kind);
-        number(self.rows);
-        number(self.altered);
-        number(self.agree);
-        text(b"\n");
+    pub(crate) fn show(self, out: &impl Print) -> io::Result<()> {
+        number(out, self.kind)?;
+        number(out, self.rows)?;
+        number(out, self.altered)?;
+        number(out, self.agree)?;
+        text(out, b"\n")
     }
 
     // The count that goes on for a kind: the rows of a kind stand together.
-    fn of_kind(self, kind: u64) -> Count {
+    fn of_kind(self, out: &impl Print, kind: u64) -> io::Result<Count> {
         if self.kind == kind {
-            return self;
+            return Ok(self);
         }
         if self.rows > 0 {
-            self.show();
+            self.show(out)?;
         }
-        Count::new(kind)
+        Ok(Count::new(kind))
     }
 
-    pub(crate) fn with_row(self, row: &[u64; ROW_NUMBERS], agrees: bool) -> Count {
-        let count = self.of_kind(nth(row, 0));
+    pub(crate) fn with_row(
+        self,
+        out: &impl Print,
+        row: &[u64; ROW_NUMBERS],
+        agrees: bool,
+    ) -> io::Result<Count> {
+        let count = self.of_kind(out, nth(row, 0))?;
         let altered = one_if(nth(row, 1) == ALTERED);
-        Count {
+        Ok(Count {
             kind: count.kind,
             rows: wrapping_add_u64(count.rows, 1),
             altered: wrapping_add_u64(count.altered, altered),
             agree: wrapping_add_u64(count.agree, one_if(agrees)),
-        }
+        })
     }
 }

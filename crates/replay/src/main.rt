@@ -11,9 +11,13 @@ mod ring;
 mod row;
 
 use count::Count;
-use libc::STDIN_FILENO;
 use reading::Reading;
 use row::{ROW_NUMBERS, nth};
+use std::io;
+use std::io::Read;
+
+// So many bytes are read at a time.
+const BLOCK_BYTES: usize = 65536;
 
 // Whether a row's answer is the one that is given.
 fn agrees(row: &[u64; ROW_NUMBERS]) -> bool {
@@ -43,7 +47,7 @@ pub struct Progress {
 }
 
 // The bytes of a block in turn; a newline ends a row.
-fn block(progress: Progress, bytes: &[u8]) -> Progress {
+fn block(out: &impl Print, progress: Progress, bytes: &[u8]) -> io::Result<Progress> {
     let mut reading = progress.reading;
     let mut count = progress.count;
     let mut i = 0;
@@ -52,27 +56,27 @@ fn block(progress: Progress, bytes: &[u8]) -> Progress {
         reading = reading.feed(byte);
         if byte == b'\n' {
             let row = reading.row;
-            count = count.with_row(&row, agrees(&row));
+            count = count.with_row(out, &row, agrees(&row))?;
             reading = Reading::new();
         }
         i += 1;
     }
-    Progress {
+    Ok(Progress {
         reading,
         count,
         more: bytes.len() > 0,
-    }
+    })
 }
 
 // One block of the input.
-fn step(progress: Progress) -> Progress {
-    let mut buffer = io::large_buffer();
-    let n = io::read_full(STDIN_FILENO, &mut buffer);
-    block(progress, &buffer[..n])
+fn step(input: &mut impl Read, out: &impl Print, progress: Progress) -> io::Result<Progress> {
+    let mut buffer = [0u8; BLOCK_BYTES];
+    let n = input.read(&mut buffer)?;
+    block(out, progress, &buffer[..n])
 }
 
 // Standard input to its end. The turns only bound the loop.
-fn read_all() -> Count {
+fn read_all(input: &mut impl Read, out: &impl Print) -> io::Result<Count> {
     let mut progress = Progress {
         reading: Reading::new(),
         count: Count::new(0),
@@ -80,13 +84,15 @@ fn read_all() -> Count {
     };
     let mut turns = u64::MAX;
     while turns > 0 && progress.more {
-        progress = step(progress);
+        progress = step(input, out, progress)?;
         turns -= 1;
     }
-    progress.count
+    Ok(progress.count)
 }
 
-fn main() {
-    count::heading();
-    read_all().show();
+fn main(rt: HostRuntime) -> io::Result<()> {
+    let mut stdin = rt.stdin();
+    let out = rt.stdout();
+    count::heading(&out)?;
+    read_all(&mut stdin, &out)?.show(&out)
 }
