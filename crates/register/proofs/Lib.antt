@@ -2,7 +2,6 @@ pub mod Search
 pub mod Once
 pub mod Pairs
 pub mod Walk
-pub mod Mixing
 pub mod Back
 pub mod Rising
 pub mod Laws

@@ -86,6 +86,7 @@ fn stands_behind(numbers: &[u64], links: &[u16; MOST_HOLDERS], at: usize) -> boo
 
 // No number 0 and no number twice among the entries with a balance: from the last entry back, each is linked to the next of its mark, and sought
 // among these.
+#[tactic(auto, using(crate::proofs::Back::zero_here))]
 fn apart(numbers: &[u64]) -> bool
     requires { length (entries_of numbers.now) ≤ 256 }
     ensures { result ≡ isNumbered (entries_of numbers.now) }
