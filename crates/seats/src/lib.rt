@@ -35,6 +35,7 @@ pub enum Change {
 }
 
 // The first entry with a balance of this number; the count where there is none.
+#[tactic(auto, using(crate::proofs::Sought::own_search))]
 fn first_of(numbers: &[u64], number: u64) -> usize
     ensures { result ≡ first_of (is_of number) (entries_of numbers.now) }
 {
