@@ -1,10 +1,9 @@
 -- An opening's list, entry by entry: the opener first, and zeros.
 -- Assumes nothing.
-use Prim.Native.Nat.{ℕ, zero, suc, ◌+◌}
-use mathlib.Core.Path.{◌≡◌, refl, sym, ap, ◌∙◌}
+use Prim.Native.Nat.{ℕ, zero, suc}
+use mathlib.Core.Path.{◌≡◌, refl, ap, ◌∙◌}
 use mathlib.Core.List.{List, [], ◌∷◌}
-use native.Mathlib.Numerals.{add-one}
-use lib.ListN.{length, set, replicate, length-set}
+use lib.ListN.{length, set, replicate}
 use Rattle.register.specs.declared.Holder.{Holder}
 use Rattle.register.specs.Holders.{zero_holder}
 use Rattle.register.specs.Changes.{with_opener}
@@ -14,20 +13,10 @@ abbrev pub entry_at : Holder → ℕ → Holder
 entry_at e zero = e
 entry_at e (suc i) = zero_holder
 
-pub entry_next : (e : Holder) (i : ℕ) → zero_holder ≡ entry_at e (i + 1)
-entry_next e i = ap (entry_at e) (sym (add-one i))
-
 -- the first i entries are written
 abbrev pub opened : Holder → List Holder → ℕ → List Holder
 opened e es zero = es
 opened e es (suc i) = set (opened e es i) i (entry_at e i)
-
-pub opened_length : (e : Holder) (es : List Holder) (i : ℕ) → length (opened e es i) ≡ length es
-opened_length e es zero = refl
-opened_length e es (suc i) = length-set (opened e es i) i (entry_at e i) ∙ opened_length e es i
-
-pub opened_next : (e : Holder) (es : List Holder) (i : ℕ) → set (opened e es i) i (entry_at e i) ≡ opened e es (i + 1)
-opened_next e es i = ap (opened e es) (sym (add-one i))
 
 -- all of them
 opened_behind : (e x : Holder) (es : List Holder) (i : ℕ) → opened e (x ∷ es) (suc i) ≡ e ∷ opened zero_holder es i
