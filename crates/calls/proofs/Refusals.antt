@@ -35,8 +35,8 @@ pub record NumberTells (s : State) (k : Decision) (d : Done) : Type 0 where
 module _ {s : State} {k : Decision} {d : Done} (h : Decides s k d) where
   no_test_fails : first k.tests ≡ 0 → Accepted k d
   no_test_fails e = record {
-    passed = first_passed k.tests h.tests-numbered (sym e);
-    result = h.by_tests ∙ sym (outcome_go k.tests (refused_at s) k.accepted (first k.tests) h.tests-numbered refl e);
+    passed = first_passed k.tests h.tests_numbered (sym e);
+    result = h.by_tests ∙ sym (outcome_go k.tests (refused_at s) k.accepted (first k.tests) h.tests_numbered refl e);
   }
 
   a_test_fails : (first k.tests ≡ 0 → ⊥) → d ≡ refused_at s (first k.tests)
@@ -46,7 +46,7 @@ module _ {s : State} {k : Decision} {d : Done} (h : Decides s k d) where
   unfolding refused refusal
   number_tells = record {
     where_refused = λ f.
-        let e = a_test_fails (λ e. f (rw (no_test_fails e).result h.accepted-zero)) in
+        let e = a_test_fails (λ e. f (rw (no_test_fails e).result h.accepted_zero)) in
         record { unchanged = rw e; number_first = rw e; zeros = rw e };
     where_accepted = go (eqb (first k.tests) 0) refl;
   }

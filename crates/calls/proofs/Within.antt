@@ -153,7 +153,7 @@ call_fits s c h = go (eqb (number_of (next s c)) 0) refl
     go true e = let a = (call_number_tells s c).where_accepted (eqb-true _ _ e) in rw a.result (accepted_fits s c h a.passed)
     go false e =
         let r = (call_number_tells s c).where_refused (eqb-false _ _ e) in
-        let short : number_of (next s c) ≤ 99 = rw r.number_first (first_short (tests_of s c) (call_decides s c).tests-short) in
+        let short : number_of (next s c) ≤ 99 = rw r.number_first (first_short (tests_of s c) (call_decides s c).tests_short) in
         record { books = unchanged_fits s (next s c) r.unchanged h; receipt = rw r.zeros (refusal_fits _ short) }
 
 -- ---- an opening of two u64
@@ -172,7 +172,7 @@ module _ (o : Opening) where
       go true e = omega (arith, eqb-true (number_of here) 0 e)
       go false e =
           let t = (opening_number_tells o).where_refused (eqb-false _ _ e) in
-          rw t.number_first (first_short _ (opening_decides o).tests-short)
+          rw t.number_first (first_short _ (opening_decides o).tests_short)
 
   pub opening_fits : number_of here ≡ 0 → o.amount0 ≤ u64_max → o.amount1 ≤ u64_max → DoneFits here
   unfolding opening_decision amounts

@@ -103,7 +103,7 @@ unfolding memory_after_all turned_all
 turns_go m [] h = refl
 turns_go m (t ∷ ts) h =
     let one = turn_goes m t h in
-    turns_go (turned_in m t) ts one.next-reads ∙ ap (λ (p : Point). turned_all p ts) one.next-point
+    turns_go (turned_in m t) ts one.next_reads ∙ ap (λ (p : Point). turned_all p ts) one.next_point
 
 pub register_in_memory : RegisterInMemory
 unfolding RegisterInMemory RegisterTheorem register_opened_on
