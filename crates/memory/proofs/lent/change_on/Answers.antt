@@ -14,4 +14,4 @@ returns c =
     let a = c.args in
     alone_given a.pool.now a.ring.now a.receipt.now (change_call a.is_deposit a.lp a.owned a.limit0 a.limit1) c.record_number-unreadable.result c.record_number-unreadable.ensures.0
     (λ q. change_of a.is_deposit q a.lp a.owned a.limit0 a.limit1)
-    (change_next a.ring.now a.is_deposit a.lp a.owned a.limit0 a.limit1) c.if-unreadable-ne-ACCEPTED.false c.pool_in.ensures c.change_after.ensures c.give.ensures
+    (change_next a.ring.now a.is_deposit a.lp a.owned a.limit0 a.limit1) c.if-unreadable-ne-ACCEPTED.false c.pool_in.ensures c.change-after.ensures c.give.ensures

@@ -7,10 +7,10 @@ pub returns-then-number-ne-ACCEPTED : goal.returns-then-number-ne-ACCEPTED
 returns-then-number-ne-ACCEPTED c =
     let a = c.args in
     opening_given a.pool.now a.ring.now a.receipt.now a.opening
-    k.«open».ensures a.ring.now c.give-number.ensures (λ z. absurd (c.if-number-ne-ACCEPTED.true z)) (λ f. refl)
+    c.open-opened.ensures a.ring.now c.give-number.ensures (λ z. absurd (c.if-number-ne-ACCEPTED.true z)) (λ f. refl)
 
 pub returns : goal.returns
 returns c =
     let a = c.args in
     opening_given a.pool.now a.ring.now a.receipt.now a.opening
-    k.«open».ensures k.«open».result.entries c.give-number.ensures (λ z. refl) (λ f. absurd (f c.if-number-ne-ACCEPTED.false))
+    c.open-opened.ensures c.open-opened.result.entries c.give-number.ensures (λ z. refl) (λ f. absurd (f c.if-number-ne-ACCEPTED.false))

@@ -9,6 +9,6 @@ use Rattle.memory.proofs.record.pool_in.Goals as goal
 pub returns : goal.returns
 unfolding record_tests
 returns c =
-    let w = c.args.t1 in
+    let w = c.args.w in
     let passed = first_passed (record_tests w) refl (sym c.requires) in
     rw (c.pool_of-p.ensures, flag_set (at w 12) passed.0, flag_set (at w 18) passed.1.0)
