@@ -81,19 +81,19 @@ unfoldable pub perform : Sheet → Row → Turn
 perform s Unreadable = refused_row s unreadable_row
 perform s (row kind a b c d e) =
     cond (eqb kind 0) (keep_rates s (record { trade = a; protocol = b; fund = c; creator = d; share = e }))
-    (cond (eqb kind Kind.Opening) (replaced s (opening (opening_with a b c d e s.rates)))
-    (cond (eqb kind Kind.SwapBaseInput) (unless_spare (eqb e 0) s (called s (swap_base_input s.pool s.entries a b c d)))
-    (cond (eqb kind Kind.SwapBaseOutput) (unless_spare (eqb e 0) s (called s (swap_base_output s.pool s.entries a b c d)))
-    (cond (eqb kind Kind.Deposit) (unless_spare (eqb d 0 && eqb e 0) s (called_besides s (deposit s.pool a b c)))
-    (cond (eqb kind Kind.Withdraw) (unless_spare (eqb e 0) s (called_besides s (withdraw s.pool a b c d)))
-    (cond (eqb kind Kind.SettleCreatorFee) (unless_spare (eqb a 0 && eqb b 0 && eqb c 0 && eqb d 0 && eqb e 0) s (called_besides s (settlement s.pool s.pool.terms.rates.share)))
-    (cond (eqb kind Kind.SetStatus) (unless_spare (eqb c 0 && eqb d 0 && eqb e 0) s (called_besides s (set_status s.pool a b)))
+    (cond (eqb kind Kind.opening_kind) (replaced s (opening (opening_with a b c d e s.rates)))
+    (cond (eqb kind Kind.swap_base_input_kind) (unless_spare (eqb e 0) s (called s (swap_base_input s.pool s.entries a b c d)))
+    (cond (eqb kind Kind.swap_base_output_kind) (unless_spare (eqb e 0) s (called s (swap_base_output s.pool s.entries a b c d)))
+    (cond (eqb kind Kind.deposit_kind) (unless_spare (eqb d 0 && eqb e 0) s (called_besides s (deposit s.pool a b c)))
+    (cond (eqb kind Kind.withdraw_kind) (unless_spare (eqb e 0) s (called_besides s (withdraw s.pool a b c d)))
+    (cond (eqb kind Kind.settle_creator_fee_kind) (unless_spare (eqb a 0 && eqb b 0 && eqb c 0 && eqb d 0 && eqb e 0) s (called_besides s (settlement s.pool s.pool.terms.rates.share)))
+    (cond (eqb kind Kind.set_status_kind) (unless_spare (eqb c 0 && eqb d 0 && eqb e 0) s (called_besides s (set_status s.pool a b)))
     (refused_row s unreadable_row))))))))
 
 -- ---- the row that it yields: refusal number or 0, two amounts, nets, supply
 -- a swap's input and output; tokens 0 and 1 of a deposit, withdrawal or settlement; else 0
 abbrev pub is_swap : Receipt → Bool
-is_swap x = eqb x.kind Kind.SwapBaseInput || eqb x.kind Kind.SwapBaseOutput
+is_swap x = eqb x.kind Kind.swap_base_input_kind || eqb x.kind Kind.swap_base_output_kind
 
 abbrev pub swap_input : Receipt → ℕ
 swap_input x = cond (eqb x.trade.direction 0) x.paid.in0 x.paid.in1
@@ -104,15 +104,15 @@ swap_output x = cond (eqb x.trade.direction 0) x.paid.out1 x.paid.out0
 abbrev pub first_amount : Receipt → ℕ
 first_amount x =
     cond (is_swap x) (swap_input x)
-    (cond (eqb x.kind Kind.Deposit) x.paid.in0
-    (cond (eqb x.kind Kind.Withdraw || eqb x.kind Kind.SettleCreatorFee) x.paid.out0
+    (cond (eqb x.kind Kind.deposit_kind) x.paid.in0
+    (cond (eqb x.kind Kind.withdraw_kind || eqb x.kind Kind.settle_creator_fee_kind) x.paid.out0
     0))
 
 abbrev pub second_amount : Receipt → ℕ
 second_amount x =
     cond (is_swap x) (swap_output x)
-    (cond (eqb x.kind Kind.Deposit) x.paid.in1
-    (cond (eqb x.kind Kind.Withdraw || eqb x.kind Kind.SettleCreatorFee) x.paid.out1
+    (cond (eqb x.kind Kind.deposit_kind) x.paid.in1
+    (cond (eqb x.kind Kind.withdraw_kind || eqb x.kind Kind.settle_creator_fee_kind) x.paid.out1
     0))
 
 unfoldable pub yielded : Turn → List ℕ

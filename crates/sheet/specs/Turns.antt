@@ -22,9 +22,9 @@ state_in s = state_of s.pool s.entries
 
 -- the receipt of an accepted opening alone has its kind
 abbrev pub is_opening : Receipt → Bool
-is_opening x = eqb x.kind Kind.Opening
+is_opening x = eqb x.kind Kind.opening_kind
 
 -- a row of its kind asks for an opening
 abbrev pub asks_opening : Row → Bool
 asks_opening Unreadable = false
-asks_opening (row kind a b c d e) = eqb kind Kind.Opening
+asks_opening (row kind a b c d e) = eqb kind Kind.opening_kind
