@@ -1,4 +1,5 @@
 -- `sheet::call::call_for` meets its contract: one line for each kind.
+use borrow.Author.Rules.{rules}
 use Rattle.sheet.specs.Stages.{call_of}
 use Rattle.sheet.proofs.Asks.{of_kind, of_last_kind}
 use Rattle.sheet.proofs.call.call_for.Goals as goal
@@ -36,6 +37,5 @@ returns-in-6 c =
 pub returns-in_default : goal.returns-in_default
 returns-in_default c =
     let a = c.args in
-    let others = c.in_default.rest in
     of_last_kind a.pool.now a.ring.now a.receipt.now a.share a.kind a.a a.b a.c a.d c.set_status_on.ensures
-    others.0.0.0.0.1 others.0.0.0.1 others.0.0.1 others.0.1 others.1
+    (search rules) (search rules) (search rules) (search rules) (search rules)

@@ -1,5 +1,6 @@
 -- `sheet::call::is_readable` meets its contract: one line for each kind.
 use borrow.Author.Tests.{ne_eqb}
+use borrow.Author.Rules.{rules}
 use Rattle.sheet.specs.Stages.{readable}
 use Rattle.sheet.proofs.call.is_readable.Goals as goal
 
@@ -30,12 +31,11 @@ returns-in-7 c = rw c.in-7.is c.all_zero-in-7.ensures
 pub returns-in_default : goal.returns-in_default
 unfolding readable
 returns-in_default c =
-    let others = c.in_default.rest in
     rw (
-      ne_eqb _ 2 others.0.0.0.0.0.1,
-      ne_eqb _ 3 others.0.0.0.0.1,
-      ne_eqb _ 4 others.0.0.0.1,
-      ne_eqb _ 5 others.0.0.1,
-      ne_eqb _ 6 others.0.1,
-      ne_eqb _ 7 others.1,
+      ne_eqb c.args.kind 2 (search rules),
+      ne_eqb c.args.kind 3 (search rules),
+      ne_eqb c.args.kind 4 (search rules),
+      ne_eqb c.args.kind 5 (search rules),
+      ne_eqb c.args.kind 6 (search rules),
+      ne_eqb c.args.kind 7 (search rules),
     )

@@ -1,6 +1,5 @@
 -- `sheet::turn::call` meets its contract.
 use mathlib.Core.Path.{◌∙◌, sym}
-use borrow.Author.Tests.{not-true, not-false}
 use Rattle.memory.specs.Memory.{memory}
 use Rattle.sheet.proofs.Taken.{call_taken, not_called}
 use Rattle.sheet.proofs.turn.call.Goals as goal
@@ -10,7 +9,7 @@ returns-then-not-is_readable c =
     λ rates.
     let a = c.args in
     not_called rates a.pool.now a.ring.now c.requires a.kind a.a a.b a.c a.d a.e
-    (sym c.is_readable.ensures ∙ not-true c.is_readable.result c.if-not-is_readable.true) c.refuse.ensures.1
+    (sym c.is_readable.ensures ∙ c.if-not-is_readable.true) c.refuse.ensures.1
 
 pub returns : goal.returns
 returns c =
@@ -18,5 +17,5 @@ returns c =
     let a = c.args in
     let left = c.call_for.new in
     call_taken rates a.pool.now a.ring.now c.requires a.receipt.now c.share_of-share.result a.kind a.a a.b a.c a.d a.e
-    (memory c.call_for.result left.0 left.1.0 left.1.1.0)
-    (sym k.is_readable.ensures ∙ not-false k.is_readable.result t.if1.false) c.share_of-share.ensures c.call_for.ensures
+    (memory c.call_for.result left.pool left.ring left.receipt)
+    (sym c.is_readable.ensures ∙ c.if-not-is_readable.false) c.share_of-share.ensures c.call_for.ensures

@@ -1,5 +1,6 @@
 -- `sheet::turn::perform_kind` meets its contract: rates, an opening, or a call.
 use mathlib.Core.Path.{◌∙◌, ap}
+use borrow.Author.Rules.{rules}
 use Rattle.memory.specs.Memory.{memory}
 use Rattle.words.specs.Words.{pool_of}
 use Rattle.sheet.specs.Lent.{sheet_in, turn_words}
@@ -20,7 +21,7 @@ returns-in-1 c =
     let a = c.args in
     let left = c.open_on.new in
     opening_taken a.rates a.pool.now a.ring.now c.requires a.receipt.now (opening_with a.a a.b a.c a.d a.e a.rates)
-    (memory c.open_on.result left.0 left.1.0 left.1.1.0) (rw c.no_charges-charges.ensures at c.open_on.ensures)
+    (memory c.open_on.result left.pool left.ring left.receipt) (rw c.no_charges-charges.ensures at c.open_on.ensures)
     ∙ ap turn_words (opens (sheet_in a.rates a.pool.now a.ring.now) a.kind a.a a.b a.c a.d a.e c.in-1.is)
 
 pub returns-in_default : goal.returns-in_default
@@ -28,4 +29,4 @@ returns-in_default c =
     let a = c.args in
     c.call.ensures a.rates
     ∙ ap turn_words
-    (asks (sheet_in a.rates a.pool.now a.ring.now) a.kind a.a a.b a.c a.d a.e c.in_default.rest.0.1 c.in_default.rest.1)
+    (asks (sheet_in a.rates a.pool.now a.ring.now) a.kind a.a a.b a.c a.d a.e (search rules) (search rules))
