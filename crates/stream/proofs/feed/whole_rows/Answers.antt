@@ -1,0 +1,71 @@
+-- `stream::feed::whole_rows` meets its contract. The loop's invariant: the rows up to a place are answered, and the others have still to be.
+use Prim.Native.Nat.{◌+◌, ◌-◌, ◌^◌, ◌≤◌, ◌<◌}
+use mathlib.Core.Path.{ap, ◌∙◌}
+use mathlib.Core.List.{[]}
+use native.Mathlib.Omega.{arith}
+use lib.ListN.{length, drop}
+use Rattle.stream.proofs.Lines.{Line, line_found}
+use Rattle.stream.proofs.Taking.{whole_line, next_row}
+use Rattle.stream.proofs.feed.whole_rows.Goals.{After-line_length-n, Else-n-bytes, In-loop-output}
+use Rattle.stream.proofs.feed.whole_rows.Goals as goal
+
+-- there is room for another row, and no place is past 2^64 − 1
+room : (c : In-loop-output)
+    → (c.loop-output.written + 103 ≤ length c.loop-output.output)
+    × (length c.loop-output.output < 2 ^ 64)
+    × (length c.args.input.now < 2 ^ 64)
+room c = omega arith
+
+-- the bytes that are left, and how many stand before the next newline
+found : (c : After-line_length-n)
+    → Line c.args.input.now c.loop-output.next c.line_length-n.result
+found c =
+    line_found c.args.input.now c.loop-output.next c.line_length-n.result
+    c.line_length-n.ensures
+
+-- a newline is among them
+ends : (c : Else-n-bytes) → c.line_length-n.result < length (drop c.loop-output.next c.args.input.now)
+ends c = let line = found (goal.at.Else-n-bytes c).After-line_length-n in omega (arith, line.within, ap length line.rest)
+
+-- the row with its newline is within the input
+fits : (c : Else-n-bytes) → c.loop-output.next + (c.line_length-n.result + 1) ≤ length c.args.input.now
+fits c = omega (arith, ends c, (found (goal.at.Else-n-bytes c).After-line_length-n).long)
+
+pub overflow_add-next : goal.overflow_add-next
+overflow_add-next c =
+    let here = goal.at.overflow_add-next c in
+    omega (arith, fits here.Else-n-bytes, room here.In-loop-output)
+
+pub answer-after-requires : goal.answer-after-requires
+answer-after-requires c =
+    let here = goal.at.answer-after-requires c in
+    let long = fits here.Else-n-bytes in
+    (c.loop-output.invariant.4, omega (arith, long), omega (arith, long))
+
+pub overflow_add-next-in-loop-output : goal.overflow_add-next-in-loop-output
+overflow_add-next-in-loop-output c =
+    let here = goal.at.overflow_add-next-in-loop-output c in
+    omega (arith, fits here.Else-n-bytes, room here.In-loop-output)
+
+pub overflow_add-next-in-loop-output-2 : goal.overflow_add-next-in-loop-output-2
+overflow_add-next-in-loop-output-2 c =
+    let here = goal.at.overflow_add-next-in-loop-output-2 c in
+    omega (arith, fits here.Else-n-bytes, room here.In-loop-output)
+
+pub loop-output-preserved : goal.loop-output-preserved
+loop-output-preserved c =
+    let here = goal.at.loop-output-preserved c in
+    let line = found here.After-line_length-n in
+    let n = c.line_length-n.result in
+    let input = c.args.input.now in
+    let after = c.answer-after.new.1.1.1.1.1.1.0 in
+    let same = c.answer-after.auto.1.1.1.1.1.1.0 in (
+      fits here.Else-n-bytes,
+      omega (arith, room here.In-loop-output, same),
+      same ∙ c.loop-output.invariant.2,
+      (λ whole before m.
+          let k = c.loop-output.invariant.3 whole before m in
+          next_row whole before input _ [] c.loop-output.next c.loop-output.written c.loop-output.output k n _ c.answer-after.result c.answer-after.new.1.0 c.answer-after.new.1.1.0 after
+          (omega arith) (omega (arith, k.fills.long, room here.In-loop-output)) line.is (ends here.Else-n-bytes) (whole_line _ (drop c.loop-output.next input) c.loop-output.next n) c.answer-after.ensures),
+      c.answer-after.ensures.is_record,
+    )
