@@ -1,5 +1,5 @@
 -- `wide::widening_mul` meets its contract: the product is four products of halves (`halves`), and the rest is linear.
-use Rattle.std.proofs.Common.{◌-◌, ◌*◌, ◌/◌, ◌%◌, ◌^◌, sym, refl, ◌∙◌}
+use Rattle.std.proofs.Common.{◌*◌, ◌/◌, ◌%◌, ◌^◌, sym, refl, ◌∙◌}
 use Rattle.wide.proofs.Halves.{halves, columns}
 use Rattle.wide.proofs.widening_mul.Goals as goal
 
