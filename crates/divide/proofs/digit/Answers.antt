@@ -1,5 +1,5 @@
 -- `divide::digit` meets its contract: the flags say by how much the estimate is too high (`Digits.antt`).
-use Rattle.std.proofs.Common.{◌-◌, ◌^◌, ◌<◌, arith, rules}
+use Rattle.std.proofs.Common.{◌^◌, ◌<◌, arith, rules}
 use Rattle.wide.specs.Steps.{Divides}
 use Rattle.divide.proofs.Long.{of_divided}
 use Rattle.divide.proofs.Digits.{upper, flags_done}
