@@ -1,5 +1,5 @@
 -- `math::ratio::mul_div_ceil` meets its contract: the answer of `mul_div`, raised where the remainder is not 0 (`raised_is`).
-use mathlib.Core.Path.{◌≡◌, sym, ap, ◌∙◌}
+use mathlib.Core.Path.{sym, ap, ◌∙◌}
 use borrow.Author.Tests.{lt-ltb, le-ltb, eq-eqb, ne_eqb}
 use Rattle.math.proofs.Answers.{raised, raised_is}
 use Rattle.math.proofs.ratio.mul_div_ceil.Goals as goal

@@ -1,5 +1,5 @@
 -- `math::ratio::mul_div_floor` meets its contract: the answer of `mul_div`, without its remainder (`lowered_is`).
-use mathlib.Core.Path.{◌≡◌, sym, ap, ◌∙◌}
+use mathlib.Core.Path.{ap, ◌∙◌}
 use Rattle.math.proofs.Answers.{lowered, lowered_is}
 use Rattle.math.proofs.ratio.mul_div_floor.Goals as goal
 
