@@ -1,5 +1,5 @@
 -- `root::isqrt` meets its contract: the guess is never too low, and falls until it is not too high. The measure is the guess.
-use Prim.Native.Nat.{◌+◌, ◌-◌, ◌*◌, ◌^◌, ◌<◌}
+use Prim.Native.Nat.{◌+◌, ◌*◌, ◌^◌, ◌<◌}
 use Rattle.wide.specs.Value.{value}
 use Rattle.root.proofs.isqrt.Given as goal
 

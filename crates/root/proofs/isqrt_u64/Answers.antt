@@ -1,6 +1,6 @@
 -- `root::isqrt_u64` meets its contract: the guess is never too low (`Guess`), and falls until it is not too high. The measure is the guess.
 use mathlib.Core.Path.{◌≡◌, sym, subst}
-use Prim.Native.Nat.{ℕ, ◌+◌, ◌-◌, ◌*◌, ◌/◌, ◌%◌, ◌^◌, ◌≤◌, ◌<◌}
+use Prim.Native.Nat.{ℕ, ◌+◌, ◌-◌, ◌*◌, ◌/◌, ◌%◌, ◌^◌, ◌≤◌}
 use native.Mathlib.Nat.{pos_of_ne-zero, lt_of_le_of_lt, lt_trans}
 use lib.Count.{count_leading_zeros}
 use lib.Dec.{lit≤, lit<}

@@ -1,5 +1,5 @@
 -- `root::isqrt_u64` meets its contract: the guess is never too low (`Guess`), and falls until it is not too high. The measure is the guess.
-use Prim.Native.Nat.{◌-◌, ◌<◌}
+use Prim.Native.Nat.{◌<◌}
 use Rattle.root.proofs.Newton.{Guess}
 use Rattle.root.proofs.isqrt_u64.Given as goal
 
