@@ -1,10 +1,9 @@
 -- The arithmetic's quotients as answers: which number they give, and which value.
 -- Assumes nothing.
-use mathlib.Core.Path.{◌≡◌, refl, sym, ap, ◌∙◌}
-use mathlib.Core.Bool.{true, false}
+use mathlib.Core.Path.{◌≡◌}
 use mathlib.Core.List.{[], ◌∷◌}
 use mathlib.Core.Logic.{⊎_elim}
-use Prim.Native.Nat.{ℕ, ◌+◌, ◌*◌, ◌/◌, ◌%◌, ◌^◌, ◌<◌, ◌≤◌}
+use Prim.Native.Nat.{ℕ, ◌/◌, ◌^◌, ◌<◌, ◌≤◌}
 use native.Mathlib.Nat.{eq-zero-or-pos}
 use native.Mathlib.Omega.{arith}
 use lib.Dec.{eqb}
@@ -15,7 +14,6 @@ use Rattle.math.specs.Ratio.{fit, floor_of, ceil_of}
 use Rattle.math.proofs.Rounding.{lt_or_le, fit_fits, fit_past, floor_none, floor_is, ceil_none, ceil_is}
 use Rattle.refusal.specs.Tests.{outcome, past}
 use Rattle.refusal.proofs.Stops.{turns, outcome_at, outcome_all}
-use Rattle.answer.specs.declared.Answer.{Answer}
 use Rattle.answer.specs.declared.Answer.TheVariants.{Amount, Refused}
 use Rattle.answer.specs.Answer.{answer_of}
 

@@ -1,5 +1,5 @@
 -- What a function called alone answers: each case's number and value.
-use Rattle.std.specs.Prelude.{ℕ, Bool}
+use Rattle.std.specs.Prelude.{ℕ}
 use Rattle.math.specs.declared.ratio.Quotient.{Quotient}
 use Rattle.math.specs.declared.ratio.Quotient.TheVariants as Q
 use Rattle.answer.specs.declared.Answer.{Answer}
