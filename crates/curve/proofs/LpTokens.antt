@@ -19,12 +19,10 @@ use Rattle.math.proofs.Rounding.{ceil_exact, ceil_more}
 use Rattle.refusal.specs.Refusal.{zero_trading_tokens, panicked}
 use Rattle.refusal.specs.Tests.{outcome}
 use Rattle.refusal.proofs.Stops.{turns, outcome_at, outcome_all}
-use Rattle.answer.specs.declared.Answer.{Answer}
 use Rattle.answer.specs.declared.Answer.TheVariants.{Amount, Refused}
 use Rattle.curve.specs.declared.constant_product.LpDivided.{LpDivided}
 use Rattle.curve.specs.declared.constant_product.RoundDirection.{RoundDirection}
 use Rattle.curve.specs.declared.constant_product.RoundDirection.TheVariants.{Floor, Ceiling}
-use Rattle.curve.specs.declared.constant_product.TradingTokenResult.{TradingTokenResult}
 use Rattle.curve.specs.declared.constant_product.TradingTokenResult.TheVariants as T
 use Rattle.curve.specs.ConstantProduct.{no_quotient, lp_divided, lp_amount, lp_part, tokens, lp_tokens_to_trading_tokens}
 use Rattle.curve.specs.Stages.{rounded, tokens_of}

@@ -1,6 +1,6 @@
 -- Document 01, 'constant_product.rs, then calculator.rs': the curve without fees, and LP tokens as trading tokens.
 -- 'Called alone on u64 amounts, none answers 4; a divisor of 0 in a swap or a result past u64 answers 11.'
-use Rattle.std.specs.Prelude.{ℕ, ◌+◌, ◌*◌, ◌-◌, ◌/◌, ◌%◌, Bool, cond, [], ◌∷◌, leb, eqb}
+use Rattle.std.specs.Prelude.{ℕ, ◌+◌, ◌*◌, ◌-◌, ◌/◌, ◌%◌, cond, [], ◌∷◌, leb, eqb}
 use Rattle.wide.specs.Value.{u128_of}
 use Rattle.divide.specs.Division.{ceil_div}
 use Rattle.refusal.specs.Refusal.{zero_trading_tokens, panicked}
