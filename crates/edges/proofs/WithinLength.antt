@@ -60,7 +60,7 @@ module _ (n : ℕ) (a b : Entries) where
   decided_alike : (decide : Entry → Decision) (x y : Entry) → x ≡ y → W.Alike n a b → Same (done_of a (decide x)) (done_of b (decide y))
   decided_alike decide x y e t = (
     ap (λ (z : Entry). (decide z).after) e,
-    λ k l. (W.stored-alike n a b (decide x).update t).before k l ∙ ap (λ (z : Entry). number_at (stored_in b (decide z).update) k) e,
+    λ k l. (W.stored_alike n a b (decide x).update t).before k l ∙ ap (λ (z : Entry). number_at (stored_in b (decide z).update) k) e,
   )
 
 next_alike :
@@ -124,9 +124,9 @@ swaps_answer_11 s direction amount limit clock h = (
 
 pub within_length : WithinLength
 within_length = record {
-  stays = λ s c. after_each s (λ ring _. ring.grid ≡ s.pool.ring.grid) c refl (λ e clock price0 price1 _. W.grid-stays s.pool.ring e clock price0 price1);
+  stays = λ s c. after_each s (λ ring _. ring.grid ≡ s.pool.ring.grid) c refl (λ e clock price0 price1 _. W.grid_stays s.pool.ring e clock price0 price1);
   inside = λ s c.
-      after_each s (λ ring _. outside ring ≡ outside s.pool.ring) c refl (λ e clock price0 price1 h. W.stays-inside s.pool.ring e clock price0 price1 h ∙ sym h);
+      after_each s (λ ring _. outside ring ≡ outside s.pool.ring) c refl (λ e clock price0 price1 h. W.stays_inside s.pool.ring e clock price0 price1 h ∙ sym h);
   unwritten = λ s c k l.
       after_each s (λ _ entries. number_at entries k ≡ number_at s.entries k) c refl (λ e clock price0 price1 _. W.unwritten s.pool.ring e clock price0 price1 s.entries k l);
   unread = λ s others c l m h. next_alike s others c (record { long = l; other_long = m; before = h });
