@@ -5,8 +5,8 @@ use Rattle.stream.proofs.feed.answer.Goals as goal
 pub returns : goal.returns
 returns c =
     let args = c.args in
-    let left = done.perform.new.1 in
-    answered args.rates args.pool.now args.ring.now _ done.perform.result left.0 left.1.0 left.1.1.0 args.output.now args.at
-    shown.receipt_of.result amounts.amounts_of.result c.holdings_of-held.result
-    c.requires.0 done.before.read_row.ensures done.perform.ensures shown.receipt_of.ensures amounts.amounts_of.ensures c.holdings_of-held.ensures
+    let left = c.perform-after.new in
+    answered args.rates args.pool.now args.ring.now _ c.perform-after.result left.pool left.ring left.receipt args.output.now args.at
+    c.receipt_of-shown.result c.amounts_of-amounts.result c.holdings_of-held.result
+    c.requires.0 c.read_row.ensures c.perform-after.ensures c.receipt_of-shown.ensures c.amounts_of-amounts.ensures c.holdings_of-held.ensures
     c.write_row_at.ensures.1

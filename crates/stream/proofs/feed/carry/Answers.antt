@@ -24,4 +24,4 @@ returns c =
     rw c.least.ensures (least_begun args.begun args.held.now (omega arith)) in
     let long = rw same at c.append-n.ensures.0 in
     let front = rw same at c.append-n.ensures.1 in
-    (long, then_zeros c.append-n.new.0 (kept (take args.begun args.held.now ++ args.part.now)) c.clear.new.0 c.append-n.result (omega arith) (within here.After-append-n) long front c.clear.ensures)
+    (long, then_zeros c.append-n.new.held (kept (take args.begun args.held.now ++ args.part.now)) c.clear.new.part c.append-n.result (omega arith) (within here.After-append-n) long front c.clear.ensures)

@@ -35,5 +35,5 @@ returns c =
     let row : take (c.least-begun.result - 0) (drop 0 held) ≡ take begun held = rw (sub-zero c.least-begun.result, c.least-begun.ensures) (least_begun begun held (omega arith)) in
     last_row args.going.rates begun args.pool.now args.ring.now held args.output.now
     c.record_number-unreadable.result c.record_number-unreadable.ensures.0 c.if-unreadable-ne-ACCEPTED.false
-    (take (c.least-begun.result - 0) (drop 0 held)) c.answer-after.result c.answer-after.new.1.0 c.answer-after.new.1.1.0 c.answer-after.new.1.1.1.1.1.1.0
+    (take (c.least-begun.result - 0) (drop 0 held)) c.answer-after.result c.answer-after.new.pool c.answer-after.new.ring c.answer-after.new.output
     (rw (length-take begun held) (omega (arith, c.least-begun.ensures))) (omega arith) row c.answer-after.ensures

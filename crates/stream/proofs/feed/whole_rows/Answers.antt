@@ -1,11 +1,16 @@
 -- `stream::feed::whole_rows` meets its contract. The loop's invariant: the rows up to a place are answered, and the others have still to be.
-use Prim.Native.Nat.{◌+◌, ◌-◌, ◌^◌, ◌≤◌, ◌<◌}
-use mathlib.Core.Path.{ap, ◌∙◌}
-use mathlib.Core.List.{[]}
+use Prim.Native.Nat.{ℕ, ◌+◌, ◌-◌, ◌^◌, ◌≤◌, ◌<◌}
+use mathlib.Core.Path.{◌≡◌, refl, ap, ◌∙◌}
+use mathlib.Core.List.{List, []}
 use native.Mathlib.Omega.{arith}
+use native.Mathlib.Nat.{sub_self}
 use lib.ListN.{length, drop}
+use Rattle.memory.specs.Steps.{IsRecord}
+use Rattle.sheet.specs.Lent.{sheet_in}
+use Rattle.stream.specs.Pieces.{Fed}
+use Rattle.stream.specs.Stages.{Midway}
 use Rattle.stream.proofs.Lines.{Line, line_found}
-use Rattle.stream.proofs.Taking.{whole_line, next_row}
+use Rattle.stream.proofs.Taking.{whole_line, next_row, no_more_room, no_more_lines}
 use Rattle.stream.proofs.feed.whole_rows.Goals.{After-line_length-n, Else-n-bytes, In-loop-output}
 use Rattle.stream.proofs.feed.whole_rows.Goals as goal
 
@@ -22,6 +27,16 @@ found : (c : After-line_length-n)
 found c =
     line_found c.args.input.now c.loop-output.next c.line_length-n.result
     c.line_length-n.ensures
+
+pub returns-then-n-bytes-clause-through : goal.returns-then-n-bytes-clause-through
+returns-then-n-bytes-clause-through c =
+    let here = goal.at.returns-then-n-bytes-clause-through c in
+    let line = found here.After-line_length-n in
+    λ whole before m.
+    let k = c.loop-output.invariant.3 whole before m in
+    rw line.rest
+    (no_more_lines whole before c.args.input.now _ [] c.loop-output.next c.loop-output.written c.loop-output.output k (omega arith) (omega (arith, k.fills.long))
+    c.loop-output.invariant.0 (omega (arith, line.is, line.long)))
 
 -- a newline is among them
 ends : (c : Else-n-bytes) → c.line_length-n.result < length (drop c.loop-output.next c.args.input.now)
@@ -58,14 +73,21 @@ loop-output-preserved c =
     let line = found here.After-line_length-n in
     let n = c.line_length-n.result in
     let input = c.args.input.now in
-    let after = c.answer-after.new.1.1.1.1.1.1.0 in
-    let same = c.answer-after.auto.1.1.1.1.1.1.0 in (
+    let after = c.answer-after.new.output in
+    let same = c.answer-after.auto.output in (
       fits here.Else-n-bytes,
       omega (arith, room here.In-loop-output, same),
       same ∙ c.loop-output.invariant.2,
       (λ whole before m.
           let k = c.loop-output.invariant.3 whole before m in
-          next_row whole before input _ [] c.loop-output.next c.loop-output.written c.loop-output.output k n _ c.answer-after.result c.answer-after.new.1.0 c.answer-after.new.1.1.0 after
+          next_row whole before input _ [] c.loop-output.next c.loop-output.written c.loop-output.output k n _ c.answer-after.result c.answer-after.new.pool c.answer-after.new.ring after
           (omega arith) (omega (arith, k.fills.long, room here.In-loop-output)) line.is (ends here.Else-n-bytes) (whole_line _ (drop c.loop-output.next input) c.loop-output.next n) c.answer-after.ensures),
       c.answer-after.ensures.is_record,
     )
+
+pub returns-clause-through : goal.returns-clause-through
+returns-clause-through c =
+    λ whole before m.
+    let k = c.loop-output.invariant.3 whole before m in
+    rw (sub_self c.loop-output.next)
+    (no_more_room whole before c.args.input.now _ [] c.loop-output.next c.loop-output.written c.loop-output.output k (omega (arith, k.fills.long)))
