@@ -9,4 +9,4 @@ unfolding opened_on
 returns c =
     let a = c.args in
     c.open_on.ensures
-    ∙ ap (opened_with a.pool.now a.ring.now a.receipt.now) k.Opening-of.ensures
+    ∙ ap (opened_with a.pool.now a.ring.now a.receipt.now) c.opening_of.ensures

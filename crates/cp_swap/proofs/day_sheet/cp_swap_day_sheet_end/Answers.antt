@@ -6,10 +6,10 @@ pub returns-then-number-ne-ACCEPTED : goal.returns-then-number-ne-ACCEPTED
 returns-then-number-ne-ACCEPTED c =
     let a = c.args in
     end_refused a.pool.now a.ring.now a.sheet.now a.held.now a.output.now a.progress.now
-    going.Going-of.ensures c.finish-ended.ensures c.if-number-ne-ACCEPTED.true
+    c.going_of.ensures c.finish-ended.ensures c.if-number-ne-ACCEPTED.true
 
 pub returns : goal.returns
 returns c =
     let a = c.args in
     end_stored a.pool.now a.ring.now a.sheet.now a.held.now a.output.now a.progress.now
-    going.Going-of.ensures c.finish-ended.ensures c.if-number-ne-ACCEPTED.false c.sheet_words.ensures
+    c.going_of.ensures c.finish-ended.ensures c.if-number-ne-ACCEPTED.false c.sheet_words.ensures

@@ -10,4 +10,4 @@ unfolding register_opened_on
 returns c =
     let a = c.args in
     c.open_by.ensures
-    ∙ ap (λ (o : Opening). register_opened_for a.pool.now a.ring.now a.receipt.now a.holders.now o a.holder) w.Opening-of.ensures
+    ∙ ap (λ (o : Opening). register_opened_for a.pool.now a.ring.now a.receipt.now a.holders.now o a.holder) c.opening_of.ensures
