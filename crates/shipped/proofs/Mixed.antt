@@ -30,7 +30,7 @@ use Rattle.sheet.specs.Sheet.{Sheet, perform, run}
 use Rattle.sheet.specs.Turns.{sheet_after, receipts_of, state_in}
 use Rattle.stream.specs.Pieces.{feed, finish, left_by, left_at_end}
 use Rattle.cp_swap.specs.DaySheet.{stored_piece, fed_on, stored_end, ended_on}
-use Rattle.shipped.specs.Openings.{reckon_all, no_opening, Went, stop, calls, opens, stays}
+use Rattle.shipped.specs.Openings.{reckon_all, reckon_next, no_opening, Went, stop, calls, opens, stays}
 use Rattle.shipped.specs.Library.{answered}
 use Rattle.shipped.specs.Written.{state_after, ShowsRows}
 use Rattle.shipped.specs.Mixed.{Lent, Use, call, opening, registered, opening_by, piece, end, opened_in, opened_by_in, fed_in, ended_in, by_call, used, used_all, begun_in, rows_of, sheet_held, sheet_of, written_by, receipts_by, point_here, points_of, points_by, receipts_by_all, points_by_all, point_at, HoldsMixed, RowPoints, Zeros, MixedTheorem}
@@ -242,7 +242,7 @@ memory_point (suc k) m (u ∷ us) h =
 reckon_append : (r : Reckoning) (xs ys : List Receipt) → reckon_all r (xs ++ ys) ≡ reckon_all (reckon_all r xs) ys
 unfolding reckon_all
 reckon_append r [] ys = refl
-reckon_append r (x ∷ xs) ys = reckon_append _ xs ys
+reckon_append r (x ∷ xs) ys = reckon_append (reckon_next r x) xs ys
 
 uses_hold :
     (before : List Receipt) (m : Lent) (us : List Use) → Reads m → SoundAt (reckon_all (start 0 0) before) (point_here m)
