@@ -42,8 +42,7 @@ fn sheet_words(rates: Rates, begun: usize) -> [u64; SHEET_WORDS]
 }
 
 // A piece of the input, whatever its length: the answers of the rows that it ends, as long as there is room for another.
-#[unsafe(no_mangle)]
-pub extern "C" fn cp_swap_day_sheet(
+pub fn cp_swap_day_sheet(
     pool: &mut [u64; POOL_WORDS],
     ring: &mut [u64; RING_WORDS],
     sheet: &mut [u64; SHEET_WORDS],
@@ -69,8 +68,7 @@ pub extern "C" fn cp_swap_day_sheet(
 }
 
 // The end of the input: the last row, where one is begun.
-#[unsafe(no_mangle)]
-pub extern "C" fn cp_swap_day_sheet_end(
+pub fn cp_swap_day_sheet_end(
     pool: &mut [u64; POOL_WORDS],
     ring: &mut [u64; RING_WORDS],
     sheet: &mut [u64; SHEET_WORDS],

@@ -16,8 +16,7 @@ use oracle::RING_WORDS;
 use words::{OPENING_WORDS, POOL_WORDS, RECEIPT_WORDS, opening_of};
 
 // A swap of an amount that goes in, for at least `minimum`. Direction 0 is token 0 for token 1.
-#[unsafe(no_mangle)]
-pub extern "C" fn cp_swap_base_input(
+pub fn cp_swap_base_input(
     pool: &mut [u64; POOL_WORDS],
     ring: &mut [u64; RING_WORDS],
     receipt: &mut [u64; RECEIPT_WORDS],
@@ -35,8 +34,7 @@ pub extern "C" fn cp_swap_base_input(
 }
 
 // A swap for an amount that comes out, for at most `maximum`.
-#[unsafe(no_mangle)]
-pub extern "C" fn cp_swap_base_output(
+pub fn cp_swap_base_output(
     pool: &mut [u64; POOL_WORDS],
     ring: &mut [u64; RING_WORDS],
     receipt: &mut [u64; RECEIPT_WORDS],
@@ -54,8 +52,7 @@ pub extern "C" fn cp_swap_base_output(
 }
 
 // Tokens of both kinds for new LP tokens.
-#[unsafe(no_mangle)]
-pub extern "C" fn cp_swap_deposit(
+pub fn cp_swap_deposit(
     pool: &mut [u64; POOL_WORDS],
     ring: &mut [u64; RING_WORDS],
     receipt: &mut [u64; RECEIPT_WORDS],
@@ -70,8 +67,7 @@ pub extern "C" fn cp_swap_deposit(
 }
 
 // LP tokens, of those that the caller owns, back for tokens of both kinds.
-#[unsafe(no_mangle)]
-pub extern "C" fn cp_swap_withdraw(
+pub fn cp_swap_withdraw(
     pool: &mut [u64; POOL_WORDS],
     ring: &mut [u64; RING_WORDS],
     receipt: &mut [u64; RECEIPT_WORDS],
@@ -89,8 +85,7 @@ pub extern "C" fn cp_swap_withdraw(
 }
 
 // The creator counters are paid out, the shared part apart.
-#[unsafe(no_mangle)]
-pub extern "C" fn cp_swap_settle_creator_fee(
+pub fn cp_swap_settle_creator_fee(
     pool: &mut [u64; POOL_WORDS],
     ring: &mut [u64; RING_WORDS],
     receipt: &mut [u64; RECEIPT_WORDS],
@@ -102,8 +97,7 @@ pub extern "C" fn cp_swap_settle_creator_fee(
 }
 
 // One bit of the status is set or cleared.
-#[unsafe(no_mangle)]
-pub extern "C" fn cp_swap_set_status(
+pub fn cp_swap_set_status(
     pool: &mut [u64; POOL_WORDS],
     ring: &mut [u64; RING_WORDS],
     receipt: &mut [u64; RECEIPT_WORDS],
@@ -117,8 +111,7 @@ pub extern "C" fn cp_swap_set_status(
 
 // A new pool, whatever the memory held. The arguments: amount 0, amount 1, model, enabled, open time, and the rates trade, protocol,
 // fund, creator, share.
-#[unsafe(no_mangle)]
-pub extern "C" fn cp_swap_open(
+pub fn cp_swap_open(
     pool: &mut [u64; POOL_WORDS],
     ring: &mut [u64; RING_WORDS],
     receipt: &mut [u64; RECEIPT_WORDS],
@@ -131,8 +124,7 @@ pub extern "C" fn cp_swap_open(
 }
 
 // The two nets of the pool, token 0's first.
-#[unsafe(no_mangle)]
-pub extern "C" fn cp_swap_nets(pool: &[u64; POOL_WORDS], nets: &mut [u64; 2]) -> u64
+pub fn cp_swap_nets(pool: &[u64; POOL_WORDS], nets: &mut [u64; 2]) -> u64
     ensures { nets_memory result nets.new ≡ nets_on pool.now nets.old }
 {
     nets_on(pool, nets)

@@ -9,8 +9,7 @@ use register_calls::{balance_on, change_by, open_by};
 use words::{OPENING_WORDS, POOL_WORDS, RECEIPT_WORDS, opening_of};
 
 // A new pool by a holder, whatever record and ring held: the list is set to zeros, and he is entered first with the supply less the locked 100.
-#[unsafe(no_mangle)]
-pub extern "C" fn cp_swap_open_registered(
+pub fn cp_swap_open_registered(
     pool: &mut [u64; POOL_WORDS],
     ring: &mut [u64; RING_WORDS],
     receipt: &mut [u64; RECEIPT_WORDS],
@@ -25,8 +24,7 @@ pub extern "C" fn cp_swap_open_registered(
 }
 
 // A deposit that is credited to a holder.
-#[unsafe(no_mangle)]
-pub extern "C" fn cp_swap_deposit_registered(
+pub fn cp_swap_deposit_registered(
     pool: &mut [u64; POOL_WORDS],
     ring: &mut [u64; RING_WORDS],
     receipt: &mut [u64; RECEIPT_WORDS],
@@ -45,8 +43,7 @@ pub extern "C" fn cp_swap_deposit_registered(
 }
 
 // A withdrawal of a holder's LP tokens, of which he owns his balance.
-#[unsafe(no_mangle)]
-pub extern "C" fn cp_swap_withdraw_registered(
+pub fn cp_swap_withdraw_registered(
     pool: &mut [u64; POOL_WORDS],
     ring: &mut [u64; RING_WORDS],
     receipt: &mut [u64; RECEIPT_WORDS],
@@ -65,8 +62,7 @@ pub extern "C" fn cp_swap_withdraw_registered(
 }
 
 // One holder's balance, 0 where he has none.
-#[unsafe(no_mangle)]
-pub extern "C" fn cp_swap_balance(holders: &[u64], holder: u64, balance: &mut [u64; 1]) -> u64
+pub fn cp_swap_balance(holders: &[u64], holder: u64, balance: &mut [u64; 1]) -> u64
     ensures { balance_memory result balance.new ≡ balance_on holders.now holder balance.old }
 {
     balance_on(holders, holder, balance)
