@@ -1,8 +1,7 @@
 -- What is sent by the points alone, told by its case, gives the charge on the least that is sent, or 14.
 -- Assumes nothing.
-use mathlib.Core.Path.{◌≡◌, refl, sym, ap, ◌∙◌, subst}
+use mathlib.Core.Path.{◌≡◌, refl, sym, ap, ◌∙◌}
 use mathlib.Core.Bool.{Bool, true, false}
-use mathlib.Core.List.{[], ◌∷◌}
 use mathlib.Core.Logic.{⊎_elim}
 use Prim.Native.Nat.{ℕ, ◌+◌, ◌-◌, ◌*◌, ◌/◌, ◌^◌, ◌<◌, ◌≤◌, min}
 use native.Mathlib.Nat.{add_comm, add-mul-div_right}
@@ -12,7 +11,6 @@ use borrow.Author.Tests.{lt-ltb, le-ltb, eq-eqb, ne_eqb, eqb-true, eqb-false, lt
 use Rattle.divide.specs.Division.{ceil_div}
 use Rattle.math.specs.declared.ratio.Quotient.{Quotient}
 use Rattle.math.specs.declared.ratio.Quotient.TheVariants as Q
-use Rattle.math.specs.contracts.ratio.Quotient.{the_type}
 use Rattle.math.specs.Ratio.{fit, ceil_of}
 use Rattle.math.proofs.Rounding.{lt_or_le, fit_fits, fit_past, ceil_is}
 use Rattle.refusal.specs.Refusal.{transfer_fee_calculate_not_match}
