@@ -4,7 +4,7 @@ use mathlib.Core.Bool.{true, ◌||◌}
 use Prim.Native.Nat.{ℕ, ◌<◌, ◌≤◌}
 use lib.Dec.{leb}
 use mathlib.Core.Logic.{⊎_elim, ◌⊎◌}
-use borrow.Author.Tests.{le-leb, lt-leb, leb-false}
+use borrow.Author.Tests.{le-leb, lt-leb}
 use Rattle.oracle.proofs.Steps.{no_entry, first_used, kept, moved}
 use Rattle.oracle.proofs.Ring.observe.Goals as goal
 
