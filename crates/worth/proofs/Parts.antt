@@ -2,8 +2,8 @@
 -- Assumes nothing.
 use mathlib.Core.Path.{◌≡◌, refl, sym, ap, ◌∙◌}
 use mathlib.Core.Bool.{Bool, true, false, not, ◌||◌}
-use mathlib.Core.Logic.{⊎_elim, ◌⊎◌}
-use Prim.Native.Nat.{ℕ, ◌*◌, ◌/◌, ◌^◌, ◌≤◌, ◌<◌}
+use mathlib.Core.Logic.{⊎_elim}
+use Prim.Native.Nat.{ℕ, ◌^◌, ◌≤◌, ◌<◌}
 use native.Mathlib.Nat.{eq-zero-or-pos}
 use native.Mathlib.Omega.{arith}
 use lib.Dec.{eqb}
@@ -15,7 +15,7 @@ use Rattle.wide.specs.Value.{value, u128_of}
 use Rattle.curve.specs.declared.constant_product.LpDivided.{LpDivided}
 use Rattle.curve.specs.declared.constant_product.RoundDirection.{RoundDirection}
 use Rattle.curve.specs.declared.constant_product.TradingTokenResult.TheVariants as T
-use Rattle.curve.specs.ConstantProduct.{no_quotient, lp_amount, tokens}
+use Rattle.curve.specs.ConstantProduct.{lp_amount, tokens}
 use Rattle.curve.specs.Stages.{rounded}
 use Rattle.curve.proofs.LpTokens.{Promised, none_is, amount_zero, amount_some, amount_fits, amount_past}
 use Rattle.worth.specs.Worth.{amount_tests, token_amounts}
