@@ -7,7 +7,7 @@ use Prim.Native.Nat.{ℕ, ◌+◌, ◌-◌, ◌≤◌}
 use lib.Dec.{ltb}
 use borrow.Author.Tests.{ltb-false}
 use Rattle.refusal.specs.Refusal.{math_overflow, insufficient_vault}
-use Rattle.refusal.specs.Tests.{u64_max, Tests, ◌then◌, past, outcome}
+use Rattle.refusal.specs.Tests.{u64_max, Tests, past, outcome}
 use Rattle.refusal.proofs.Stops.{neither, outcome_past, outcome_all}
 use Rattle.charge.specs.declared.Charges.{Charges}
 use Rattle.charge.specs.declared.Charged.{Charged}

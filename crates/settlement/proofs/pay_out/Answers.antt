@@ -1,6 +1,5 @@
 -- `settlement::pay_out` meets its contract.
 use mathlib.Core.Path.{◌∙◌}
-use Prim.Native.Nat.{◌-◌}
 use Rattle.settlement.specs.Settlement.{settled_counters}
 use Rattle.settlement.proofs.Payment.{counter_past, vault_small, paid}
 use Rattle.settlement.proofs.pay_out.Goals as goal
