@@ -7,7 +7,7 @@ use Prim.Native.Nat.{ℕ, ◌+◌, ◌≤◌}
 use lib.Dec.{ltb, eqb}
 use borrow.Author.Tests.{ltb-false, eqb-true, eqb-false}
 use Rattle.refusal.specs.Refusal.{exceeded_slippage}
-use Rattle.refusal.specs.Tests.{u64_max, Tests, ◌then◌, first, outcome}
+use Rattle.refusal.specs.Tests.{u64_max, Tests, ◌then◌, first}
 use Rattle.refusal.proofs.Stops.{first_passed, first_stage, first_past, outcome_stop, outcome_go, stopped, gone}
 use Rattle.accounting.specs.declared.Books.{Books}
 use Rattle.charge.specs.declared.Charges.{Charges}
