@@ -5,7 +5,6 @@ use native.Mathlib.Omega.{arith}
 use Rattle.wide.specs.Value.{u128_of}
 use Rattle.wide.proofs.Words.{words_are}
 use Rattle.refusal.proofs.Stops.{turns, outcome_at, outcome_all}
-use Rattle.oracle.specs.Ring.{price}
 use Rattle.prices.specs.Prices.{prices_of}
 use borrow.Author.Rules.{rules}
 use Rattle.prices.proofs.prices_at.Goals.{After-token_price_x32, After-token_price_x32-2}
