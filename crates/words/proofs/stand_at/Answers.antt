@@ -1,5 +1,4 @@
 -- `words::stand_at` meets its contract. The loop's invariant: what is left of the numbers and of the row answers for the whole.
-use Prim.Native.Nat.{◌-◌}
 use native.Mathlib.Omega.{arith}
 use Rattle.words.proofs.Rows.{none_left, row_ends, differs, left_next}
 use Rattle.words.proofs.stand_at.Goals as goal
