@@ -16,7 +16,6 @@ use Rattle.calculator.specs.Calculator.{curve_output, curve_input}
 use Rattle.accounting.specs.declared.Books.{Books}
 use Rattle.accounting.specs.Counters.{of_token, net0, net1, counter_tests}
 use Rattle.accounting.specs.Booking.{creator_token, booked}
-use Rattle.charge.specs.declared.Charge.{Charge}
 use Rattle.charge.specs.declared.Charged.{Charged}
 use Rattle.charge.specs.declared.Charges.{Charges}
 use Rattle.charge.specs.Charge.{rest_of, least_sent, nothing_charged, charged_on}
