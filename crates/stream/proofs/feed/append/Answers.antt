@@ -1,5 +1,4 @@
 -- `stream::feed::append` meets its contract. The loop's invariant: the bytes that were begun, and those of the part that were passed, stand in front.
-use Prim.Native.Nat.{◌-◌}
 use native.Mathlib.Omega.{arith}
 use Rattle.stream.proofs.Holding.{all_appended}
 use Rattle.stream.proofs.feed.append.Goals as goal

@@ -1,5 +1,4 @@
 -- `stream::feed::has_newline` meets its contract. The loop's invariant: a newline was found, or one is among the bytes still to come.
-use Prim.Native.Nat.{◌-◌}
 use mathlib.Core.Path.{◌∙◌}
 use native.Mathlib.Numerals.{add-one}
 use native.Mathlib.Omega.{arith}

@@ -1,5 +1,4 @@
 -- `stream::feed::line_length` meets its contract. The loop's invariant: the bytes passed, and the line that is left of the others.
-use Prim.Native.Nat.{◌-◌}
 use native.Mathlib.Numerals.{add-one}
 use native.Mathlib.Omega.{arith}
 use Rattle.stream.proofs.Lines.{past_byte, at_newline, at_end}

@@ -1,14 +1,10 @@
 -- `stream::feed::whole_rows` meets its contract. The loop's invariant: the rows up to a place are answered, and the others have still to be.
-use Prim.Native.Nat.{ℕ, ◌+◌, ◌-◌, ◌^◌, ◌≤◌, ◌<◌}
-use mathlib.Core.Path.{◌≡◌, refl, ap, ◌∙◌}
-use mathlib.Core.List.{List, []}
+use Prim.Native.Nat.{◌+◌, ◌^◌, ◌≤◌, ◌<◌}
+use mathlib.Core.Path.{ap, ◌∙◌}
+use mathlib.Core.List.{[]}
 use native.Mathlib.Omega.{arith}
 use native.Mathlib.Nat.{sub_self}
 use lib.ListN.{length, drop}
-use Rattle.memory.specs.Steps.{IsRecord}
-use Rattle.sheet.specs.Lent.{sheet_in}
-use Rattle.stream.specs.Pieces.{Fed}
-use Rattle.stream.specs.Stages.{Midway}
 use Rattle.stream.proofs.Lines.{Line, line_found}
 use Rattle.stream.proofs.Taking.{whole_line, next_row, no_more_room, no_more_lines}
 use Rattle.stream.proofs.feed.whole_rows.Goals.{After-line_length-n, Else-n-bytes, In-loop-output}
