@@ -5,7 +5,7 @@ use Rattle.math.proofs.Parts.{share_left_of_parts}
 use Rattle.fees.specs.Fees.{million, fee_up, fee_down}
 use Rattle.fees.specs.Parts.{FeesOfParts}
 
--- feeDown is opened too, so that fees rounded down are refused by numbers
+-- fee_down is opened too, so that fees rounded down are refused by numbers
 pub fees_of_parts : FeesOfParts
 unfolding fee_up fee_down
 fees_of_parts = record {
