@@ -1,11 +1,9 @@
 -- Document 01, the booking of a swap: 'A swap's protocol and fund fee are added to those counters of its input token,
 -- its creator fee to the creator counter of that fee's token.'
-use Rattle.std.specs.Prelude.{ℕ, ◌+◌, Bool, true, false, not, cond, [], ◌∷◌}
+use Rattle.std.specs.Prelude.{Result, Ok, Err, ℕ, ◌+◌, Bool, true, false, not, cond, [], ◌∷◌}
 use Rattle.refusal.specs.Refusal.{panicked}
 use Rattle.refusal.specs.Tests.{Tests, past, outcome}
 use Rattle.accounting.specs.declared.FeeCounters.{FeeCounters}
-use Rattle.accounting.specs.declared.Booking.{Booking}
-use Rattle.accounting.specs.declared.Booking.TheVariants.{Booked, Refused}
 use Rattle.accounting.specs.Counters.{of_token}
 
 -- the creator fee's token: the input's, or the output's where the fee is on output
@@ -47,6 +45,6 @@ booking_tests inToken feeToken protocol fund creator f =
     protocol fund creator
 
 -- the counters after it as an answer
-unfoldable pub booking_answer : Bool → Bool → ℕ → ℕ → ℕ → FeeCounters → Booking
+unfoldable pub booking_answer : Bool → Bool → ℕ → ℕ → ℕ → FeeCounters → Result FeeCounters ℕ
 booking_answer inToken feeToken protocol fund creator f =
-    outcome (booking_tests inToken feeToken protocol fund creator f) Refused (Booked (booked inToken feeToken protocol fund creator f))
+    outcome (booking_tests inToken feeToken protocol fund creator f) Err (Ok (booked inToken feeToken protocol fund creator f))

@@ -1,12 +1,11 @@
 -- Document 01: 'vault t is the whole balance of token t; net t is vault t less its protocol, fund and creator counters'.
 -- A token is a Bool here: true is token 0, false is token 1.
-use Rattle.std.specs.Prelude.{ℕ, ◌+◌, ◌-◌, Bool, true, false, [], ◌∷◌, ltb}
+use Rattle.std.specs.Prelude.{Result, Ok, Err, ℕ, ◌+◌, ◌-◌, Bool, true, false, [], ◌∷◌, ltb}
 use Rattle.refusal.specs.Refusal.{math_overflow, insufficient_vault}
 use Rattle.refusal.specs.Tests.{Tests, past, outcome}
 use Rattle.accounting.specs.declared.FeeCounters.{FeeCounters}
 use Rattle.accounting.specs.declared.Books.{Books}
 use Rattle.accounting.specs.declared.Nets.{Nets}
-use Rattle.accounting.specs.declared.Nets.TheVariants.{Of, Refused}
 
 -- of two things, token 0's and token 1's, that of a token
 abbrev pub of_token : {A : Type 0} → Bool → A → A → A
@@ -40,5 +39,5 @@ counter_tests b =
     ∷ []
 
 -- the two nets as an answer
-unfoldable pub nets_answer : Books → Nets
-nets_answer b = outcome (counter_tests b) Refused (Of (net0 b) (net1 b))
+unfoldable pub nets_answer : Books → Result Nets ℕ
+nets_answer b = outcome (counter_tests b) Err (Ok (record { net0 = net0 b; net1 = net1 b }))

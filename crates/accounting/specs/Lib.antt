@@ -1,3 +1,4 @@
 pub mod Counters
 pub mod Booking
 pub mod Locked
+pub mod Stages

@@ -3,11 +3,11 @@
 #![tactic(auto)]
 
 ghost use Rattle.std.specs.Prelude.{◌≡◌, ◌+◌, ◌-◌, ◌≤◌};
-ghost use Rattle.refusal.specs.Tests.{first};
-ghost use Rattle.accounting.specs.Counters.{of_token, counter_tests, nets_answer};
-ghost use Rattle.accounting.specs.Booking.{creator_token, past_tests, booking_answer};
+ghost use Rattle.accounting.specs.Counters.{of_token, nets_answer};
+ghost use Rattle.accounting.specs.Booking.{creator_token, booking_answer};
+ghost use Rattle.accounting.specs.Stages.{counters_answer, net_answer, added};
 
-use refusal::{ACCEPTED, INSUFFICIENT_VAULT, MATH_OVERFLOW, PANIC, first3, past_sum};
+use refusal::Refusal;
 
 // So many LP tokens are locked at the start; the supply counts them. After `lock_lp_amount` of the original's instruction `initialize`.
 pub const LOCK_LP_AMOUNT: u64 = 100;
@@ -39,79 +39,49 @@ pub struct SwapFees {
     pub creator: u64,
 }
 
-// The two nets, or a refusal's number.
+// What is a token's own of its vault, of both tokens.
 #[derive(Clone, Copy)]
-pub enum Nets {
-    Of(u64, u64),
-    Refused(u64),
+pub struct Nets {
+    pub net0: u64,
+    pub net1: u64,
 }
 
-// The counters after a booking, or a refusal's number.
-#[derive(Clone, Copy)]
-pub enum Booking {
-    Booked(FeeCounters),
-    Refused(u64),
-}
-
-// Counters' sums 8, vaults 7; or 0.
-fn counter_number(books: Books) -> u64
-    ensures { result ≡ first (counter_tests books) }
+// A token's counters together; past u64, 8.
+fn counters_of(protocol: u64, fund: u64, creator: u64) -> Result<u64, Refusal>
+    ensures { result ≡ counters_answer (protocol + fund + creator) }
 {
-    let vault0 = books.vault0;
-    let vault1 = books.vault1;
-    let protocol0 = books.fees.protocol0;
-    let protocol1 = books.fees.protocol1;
-    let fund0 = books.fees.fund0;
-    let fund1 = books.fees.fund1;
-    let creator0 = books.fees.creator0;
-    let creator1 = books.fees.creator1;
-    if fund0 > u64::MAX - protocol0 {
-        return MATH_OVERFLOW;
-    }
-    if creator0 > u64::MAX - (protocol0 + fund0) {
-        return MATH_OVERFLOW;
-    }
-    if fund1 > u64::MAX - protocol1 {
-        return MATH_OVERFLOW;
-    }
-    if creator1 > u64::MAX - (protocol1 + fund1) {
-        return MATH_OVERFLOW;
-    }
-    if vault0 < protocol0 + fund0 + creator0 {
-        return INSUFFICIENT_VAULT;
-    }
-    if vault1 < protocol1 + fund1 + creator1 {
-        return INSUFFICIENT_VAULT;
-    }
-    ACCEPTED
+    protocol
+        .checked_add(fund)
+        .and_then(|sum| sum.checked_add(creator))
+        .ok_or(Refusal::MATH_OVERFLOW)
 }
 
-// One token's net: its vault less its counters.
-fn net(vault: u64, protocol: u64, fund: u64, creator: u64) -> u64
-    requires { protocol + fund + creator ≤ vault }
-    ensures { result ≡ vault - (protocol + fund + creator) }
+// A token's net: its vault less its counters; those above it, 7.
+fn net_of(vault: u64, counters: u64) -> Result<u64, Refusal>
+    ensures { result ≡ net_answer vault counters }
 {
-    vault - (protocol + fund + creator)
+    vault
+        .checked_sub(counters)
+        .ok_or(Refusal::INSUFFICIENT_VAULT)
 }
 
 impl Books {
     // Both nets, or 8 or 7.
-    pub fn vault_amount_without_fee(self) -> Nets
+    #[tactic(auto, unfolding(crate::specs::Counters::nets_answer, crate::specs::Counters::counter_tests, refusal::specs::Tests::outcome))]
+    pub fn vault_amount_without_fee(self) -> Result<Nets, Refusal>
         ensures { result ≡ nets_answer self }
     {
-        let number = counter_number(self);
-        if number != ACCEPTED {
-            return Nets::Refused(number);
-        }
         let fees = self.fees;
-        let net0 = net(self.vault0, fees.protocol0, fees.fund0, fees.creator0);
-        let net1 = net(self.vault1, fees.protocol1, fees.fund1, fees.creator1);
-        Nets::Of(net0, net1)
+        let counters0 = counters_of(fees.protocol0, fees.fund0, fees.creator0)?;
+        let counters1 = counters_of(fees.protocol1, fees.fund1, fees.creator1)?;
+        let net0 = net_of(self.vault0, counters0)?;
+        let net1 = net_of(self.vault1, counters1)?;
+        Ok(Nets { net0, net1 })
     }
 }
 
-// Of two numbers, token 0's and token 1's, that of a token.
-pub fn of_token(zero: bool, of0: u64, of1: u64) -> u64
+// Of two values, token 0's and token 1's, that of a token.
+pub fn of_token<T: Copy>(zero: bool, of0: T, of1: T) -> T
     ensures { result ≡ of_token zero of0 of1 }
 {
     if zero { of0 } else { of1 }
@@ -124,36 +94,26 @@ pub fn creator_token(fee_on_input: bool, zero_in: bool) -> bool
     if fee_on_input { zero_in } else { !zero_in }
 }
 
-// A counter past u64, 11; or 0: the three counters that a swap's fees go to, and the fees.
-fn booking_number(protocol: u64, fund: u64, creator: u64, fees: SwapFees) -> u64
-    ensures { result ≡ first (past_tests protocol fund creator fees.protocol fees.fund fees.creator) }
+// A counter with a fee added; past u64, 11.
+fn add_fee(counter: u64, fee: u64) -> Result<u64, Refusal>
+    ensures { result ≡ added counter fee }
 {
-    first3(
-        past_sum(protocol, fees.protocol),
-        PANIC,
-        past_sum(fund, fees.fund),
-        PANIC,
-        past_sum(creator, fees.creator),
-        PANIC,
-    )
+    counter.checked_add(fee).ok_or(Refusal::PANIC)
 }
 
 impl FeeCounters {
     // A swap's protocol and fund fee go to the counters of its input token, its creator fee to that of the fee's token.
-    pub fn book(self, zero_in: bool, zero_fee: bool, fees: SwapFees) -> Booking
+    #[tactic(auto, unfolding(crate::specs::Booking::booking_answer, crate::specs::Booking::booking_tests, crate::specs::Booking::past_tests, crate::specs::Booking::booked, refusal::specs::Tests::outcome))]
+    pub fn book(self, zero_in: bool, zero_fee: bool, fees: SwapFees) -> Result<FeeCounters, Refusal>
         ensures { result ≡ booking_answer zero_in zero_fee fees.protocol fees.fund fees.creator self }
     {
         let protocol = of_token(zero_in, self.protocol0, self.protocol1);
         let fund = of_token(zero_in, self.fund0, self.fund1);
         let creator = of_token(zero_fee, self.creator0, self.creator1);
-        let number = booking_number(protocol, fund, creator, fees);
-        if number != ACCEPTED {
-            return Booking::Refused(number);
-        }
-        let next_protocol = protocol + fees.protocol;
-        let next_fund = fund + fees.fund;
-        let next_creator = creator + fees.creator;
-        Booking::Booked(FeeCounters {
+        let next_protocol = add_fee(protocol, fees.protocol)?;
+        let next_fund = add_fee(fund, fees.fund)?;
+        let next_creator = add_fee(creator, fees.creator)?;
+        Ok(FeeCounters {
             protocol0: of_token(zero_in, next_protocol, self.protocol0),
             protocol1: of_token(zero_in, self.protocol1, next_protocol),
             fund0: of_token(zero_in, next_fund, self.fund0),
