@@ -4,7 +4,7 @@ use native.Mathlib.Nat.{add-mul-div_right, add-mul-mod_self_right, mod-add-mod}
 use lib.Arith.{digits_div, digits_mod, digits_lt, mod-mul}
 use borrow.Author.Tests.{eqb-false}
 use Rattle.wide.specs.declared.U128.{U128}
-use Rattle.wide.specs.declared.Product.TheVariants.{Fits, Past}
+use Rattle.std.specs.Prelude.{Some, None}
 use Rattle.wide.specs.Value.{value, u128_of, product_of}
 use Rattle.wide.specs.Steps.{Less}
 use Rattle.wide.proofs.Halves.{spread}
@@ -99,13 +99,13 @@ pub word_product : (h l k t c low : ℕ) → t ≡ h * k → c * 2 ^ 64 + low �
 word_product h l k t c low et ec = omega (arith, spread (2 ^ 64) k h l)
 
 -- as an answer: it has 128 bits, or more
-pub product_fits : (x low n : ℕ) → n ≡ x * 2 ^ 64 + low → x < 2 ^ 64 → low < 2 ^ 64 → Fits (record { high = x; low = low }) ≡ product_of n
+pub product_fits : (x low n : ℕ) → n ≡ x * 2 ^ 64 + low → x < 2 ^ 64 → low < 2 ^ 64 → Some (record { high = x; low = low }) ≡ product_of n
 unfolding product_of
 product_fits x low n e hx hl =
-    ap Fits (words_are x low hx hl ∙ ap u128_of (sym e))
+    ap Some (words_are x low hx hl ∙ ap u128_of (sym e))
     ∙ sym (simp (lt-ltb n (2 ^ 128) (subst (λ (m : ℕ). m < 2 ^ 128) (sym e) (halves_lt x low hx hl))))
 
-pub product_past : (x low n : ℕ) → n ≡ x * 2 ^ 64 + low → 2 ^ 64 ≤ x → Past ≡ product_of n
+pub product_past : (x low n : ℕ) → n ≡ x * 2 ^ 64 + low → 2 ^ 64 ≤ x → None ≡ product_of n
 unfolding product_of
 product_past x low n e hx = sym (simp (le-ltb n (2 ^ 128) (subst (λ (m : ℕ). 2 ^ 128 ≤ m) (sym e) past)))
   where

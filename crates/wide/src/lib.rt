@@ -4,17 +4,10 @@
 ghost use Rattle.std.specs.Prelude.{◌≡◌, ◌+◌, ◌*◌, ◌==◌};
 ghost use Rattle.wide.specs.Value.{value, u128_of, product_of};
 
-#[derive(Clone, Copy)]
+#[derive(Clone, Copy, Debug, PartialEq, Eq)]
 pub struct U128 {
     pub high: u64,
     pub low: u64,
-}
-
-// A product that has 128 bits, or more than that.
-#[derive(Clone, Copy)]
-pub enum Product {
-    Fits(U128),
-    Past,
 }
 
 // Whether the number is 0.
@@ -51,7 +44,7 @@ pub fn wrapping_add(a: U128, b: U128) -> U128
     ensures { result ≡ u128_of (value a + value b) }
 {
     let low = std::num::wrapping_add_u64(a.low, b.low);
-    let carry = if low < a.low { 1 } else { 0 };
+    let carry = u64::from(low < a.low);
     let high = std::num::wrapping_add_u64(a.high, b.high);
     U128 {
         high: std::num::wrapping_add_u64(high, carry),
@@ -60,20 +53,17 @@ pub fn wrapping_add(a: U128, b: U128) -> U128
 }
 
 // n * k, where that has 128 bits: the ring's price times seconds may pass 2^128 - 1.
-pub fn checked_mul(n: U128, k: u64) -> Product
+pub fn checked_mul(n: U128, k: u64) -> Option<U128>
     ensures { result ≡ product_of (value n * k) }
 {
     let lower = widening_mul(n.low, k);
     let upper = widening_mul(n.high, k);
-    let carry = lower.high;
-    let top = upper.low;
-    if upper.high == 0 {
-        if top <= u64::MAX - carry {
-            return Product::Fits(U128 {
-                high: top + carry,
-                low: lower.low,
-            });
-        }
+    if upper.high != 0 {
+        return None;
     }
-    Product::Past
+    let high = upper.low.checked_add(lower.high)?;
+    Some(U128 {
+        high,
+        low: lower.low,
+    })
 }

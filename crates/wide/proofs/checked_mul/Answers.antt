@@ -1,14 +1,11 @@
 -- `wide::checked_mul` meets its contract, by the products of the two words (`Words.antt`).
-use Rattle.std.proofs.Common.{◌≡◌, ℕ, ◌+◌, ◌-◌, ◌*◌, ◌^◌, ◌<◌, ◌≤◌, sym, refl, ◌∙◌, le_trans, le-add_right, pos_of_ne-zero, arith, rules}
+use Rattle.std.proofs.Common.{◌≡◌, ℕ, ◌+◌, ◌*◌, ◌^◌, ◌<◌, ◌≤◌, sym, refl, ◌∙◌, le_trans, le-add_right, pos_of_ne-zero, arith, rules}
 use Rattle.wide.specs.Value.{value}
 use Rattle.wide.proofs.Words.{low_only, word_product, product_fits, product_past}
 use Rattle.wide.proofs.checked_mul.Goals.{After-widening_mul-lower, After-widening_mul-upper}
 use Rattle.wide.proofs.checked_mul.Goals as goal
 
--- the carry and the low word fit
-carry_lt : (c : After-widening_mul-lower) → c.widening_mul-lower.result.high < 2 ^ 64
-carry_lt c = search rules
-
+-- the low word fits
 low_lt : (c : After-widening_mul-lower) → c.widening_mul-lower.result.low < 2 ^ 64
 low_lt c = search rules
 
@@ -28,20 +25,22 @@ whole : (c : After-widening_mul-upper) (t : ℕ) →
     t ≡ a.n.high * a.k → value a.n * a.k ≡ (t + lower.high) * 2 ^ 64 + lower.low
 whole c t e = let a = c.args in word_product a.n.high a.n.low a.k t _ _ e c.widening_mul-lower.ensures
 
-sum_lt : (t c : ℕ) → t ≤ 2 ^ 64 - 1 - c → c < 2 ^ 64 → t + c < 2 ^ 64
-sum_lt t c h l = omega arith
+not_lt : (n m : ℕ) → (n < m → ⊥) → m ≤ n
+not_lt n m h = omega arith
 
-sum_past : (t c : ℕ) → 2 ^ 64 - 1 - c < t → 2 ^ 64 ≤ t + c
-sum_past t c h = omega arith
+pub returns-then-upper-ne0 : goal.returns-then-upper-ne0
+returns-then-upper-ne0 c =
+    product_past _ _ _ (whole (goal.at.returns-then-upper-ne0 c).After-widening_mul-upper _ refl) (le_trans (more_words _ _ _ c.widening_mul-upper.ensures (pos_of_ne-zero c.if-upper-ne0.true)) (le-add_right _ _))
 
-pub returns-then-top-carry : goal.returns-then-top-carry
-returns-then-top-carry c =
-    product_fits _ _ _ (whole (goal.at.returns-then-top-carry c).After-widening_mul-upper _ (one_word (goal.at.returns-then-top-carry c).After-widening_mul-upper c.if-upper-eq0.true)) (sum_lt _ _ c.if-top-carry.true (carry_lt (goal.at.returns-then-top-carry c).After-widening_mul-lower)) (low_lt (goal.at.returns-then-top-carry c).After-widening_mul-lower)
+pub returns-in_err-high : goal.returns-in_err-high
+returns-in_err-high c =
+    let here = goal.at.returns-in_err-high c in
+    let upper = one_word here.After-widening_mul-upper c.if-upper-ne0.false in
+    c.from_residual.ensures ∙ product_past _ _ _ (whole here.After-widening_mul-upper _ upper) (not_lt _ _ c.in_err-high.ensures)
 
-pub returns-else-top-carry : goal.returns-else-top-carry
-returns-else-top-carry c =
-    product_past _ _ _ (whole (goal.at.returns-else-top-carry c).After-widening_mul-upper _ (one_word (goal.at.returns-else-top-carry c).After-widening_mul-upper c.if-upper-eq0.true)) (sum_past _ _ c.if-top-carry.false)
-
-pub returns-else-upper-eq0 : goal.returns-else-upper-eq0
-returns-else-upper-eq0 c =
-    product_past _ _ _ (whole (goal.at.returns-else-upper-eq0 c).After-widening_mul-upper _ refl) (le_trans (more_words _ _ _ c.widening_mul-upper.ensures (pos_of_ne-zero c.if-upper-eq0.false)) (le-add_right _ _))
+pub returns : goal.returns
+returns c =
+    let here = goal.at.returns c in
+    let sum = c.in_ok-high.ensures in
+    let upper = one_word here.After-widening_mul-upper c.if-upper-ne0.false in
+    rw sum.1 (product_fits _ _ _ (whole here.After-widening_mul-upper _ upper) sum.0 (low_lt here.After-widening_mul-lower))
