@@ -12,7 +12,8 @@ use borrow.Author.Tests.{lt-ltb, le-ltb, eq-eqb, ne_eqb}
 use Rattle.divide.specs.Division.{ceil_div}
 use Rattle.divide.proofs.Digits.{once_less}
 use Rattle.divide.proofs.Long.{parted}
-use Rattle.math.specs.declared.ratio.Quotient.TheVariants as Q
+use Rattle.std.specs.Prelude.{Ok, Err}
+use Rattle.math.specs.declared.ratio.NoQuotient.TheVariants.{Past, NoDivisor}
 use Rattle.math.specs.Ratio.{fit, floor_of, ceil_of}
 
 -- two numbers are in order one way or the other
@@ -33,6 +34,10 @@ module _ (n d : ℕ) where
   -- and one more would be
   pub floor_next : 0 < d → n < (n / d + 1) * d
   floor_next h = omega (arith, lt-div-mul-add {a = n} {b = d} h)
+
+-- that of two halves is past u64 where the high half is not below the divisor
+pub halves_past : (high low d : ℕ) → 0 < d → d ≤ high → 2 ^ 64 ≤ (high * 2 ^ 64 + low) / d
+halves_past high low d hd hh = (le-div_iff_mul-le {k = d} {x = 2 ^ 64} {y = high * 2 ^ 64 + low} hd).1 (omega arith)
 
 -- it does not fall as the dividend rises
 pub floor_mono : (n m d : ℕ) → n ≤ m → n / d ≤ m / d
@@ -142,21 +147,21 @@ shares_le amount r s whole h =
 -- ---- answers
 
 -- a number that fits a u64
-pub fit_fits : (n : ℕ) → n < 2 ^ 64 → fit n ≡ Q.Fits n
+pub fit_fits : (n : ℕ) → n < 2 ^ 64 → fit n ≡ Ok n
 unfolding fit
 fit_fits n h = simp (lt-ltb n (2 ^ 64) h)
 
 -- and one that is past it
-pub fit_past : (n : ℕ) → 2 ^ 64 ≤ n → fit n ≡ Q.Past
+pub fit_past : (n : ℕ) → 2 ^ 64 ≤ n → fit n ≡ Err Past
 unfolding fit
 fit_past n h = simp (le-ltb n (2 ^ 64) h)
 
 -- a divisor of 0
-pub floor_none : (n d : ℕ) → d ≡ 0 → floor_of n d ≡ Q.NoDivisor
+pub floor_none : (n d : ℕ) → d ≡ 0 → floor_of n d ≡ Err NoDivisor
 unfolding floor_of
 floor_none n d h = simp (eq-eqb d 0 h)
 
-pub ceil_none : (n d : ℕ) → d ≡ 0 → ceil_of n d ≡ Q.NoDivisor
+pub ceil_none : (n d : ℕ) → d ≡ 0 → ceil_of n d ≡ Err NoDivisor
 unfolding ceil_of
 ceil_none n d h = simp (eq-eqb d 0 h)
 
@@ -166,18 +171,18 @@ module _ (n d : ℕ) (h : 0 < d) where
   unfolding floor_of
   floor_is = simp (ne_eqb d 0 (ne_of_gt h))
 
-  pub floor_fits : n / d < 2 ^ 64 → floor_of n d ≡ Q.Fits (n / d)
+  pub floor_fits : n / d < 2 ^ 64 → floor_of n d ≡ Ok (n / d)
   floor_fits p = floor_is ∙ fit_fits (n / d) p
 
-  pub floor_past : 2 ^ 64 ≤ n / d → floor_of n d ≡ Q.Past
+  pub floor_past : 2 ^ 64 ≤ n / d → floor_of n d ≡ Err Past
   floor_past p = floor_is ∙ fit_past (n / d) p
 
   pub ceil_is : ceil_of n d ≡ fit (ceil_div n d)
   unfolding ceil_of
   ceil_is = simp (ne_eqb d 0 (ne_of_gt h))
 
-  pub ceil_fits : ceil_div n d < 2 ^ 64 → ceil_of n d ≡ Q.Fits (ceil_div n d)
+  pub ceil_fits : ceil_div n d < 2 ^ 64 → ceil_of n d ≡ Ok (ceil_div n d)
   ceil_fits p = ceil_is ∙ fit_fits (ceil_div n d) p
 
-  pub ceil_past : 2 ^ 64 ≤ ceil_div n d → ceil_of n d ≡ Q.Past
+  pub ceil_past : 2 ^ 64 ≤ ceil_div n d → ceil_of n d ≡ Err Past
   ceil_past p = ceil_is ∙ fit_past (ceil_div n d) p

@@ -6,67 +6,47 @@ ghost use Rattle.math.specs.Ratio.{parts_of, floor_of, ceil_of};
 use divide::{Divided, div_rem};
 use wide::{U128, widening_mul};
 
-// A quotient: it fits a u64, or is past one, or the divisor is 0.
-#[derive(Clone, Copy)]
-pub enum Quotient {
-    Fits(u64),
-    Past,
-    NoDivisor,
-}
-
-// The same with the remainder.
-#[derive(Clone, Copy)]
-pub enum Parts {
-    Fits(Divided),
+// Why there is no quotient of 64 bits: it is past a u64, or the divisor is 0.
+#[derive(Clone, Copy, Debug, PartialEq, Eq)]
+pub enum NoQuotient {
     Past,
     NoDivisor,
 }
 
 // a * b / d, rounded down, with the remainder.
-fn mul_div(a: u64, b: u64, d: u64) -> Parts
+#[tactic(auto, unfolding(crate::specs::Ratio::parts_of))]
+fn mul_div(a: u64, b: u64, d: u64) -> Result<Divided, NoQuotient>
     ensures { result ≡ parts_of (a * b) d }
 {
     if d == 0 {
-        return Parts::NoDivisor;
+        return Err(NoQuotient::NoDivisor);
     }
     let n = widening_mul(a, b);
     if n.high < d {
-        Parts::Fits(div_rem(n, d))
+        Ok(div_rem(n, d))
     } else {
-        Parts::Past
+        Err(NoQuotient::Past)
     }
 }
 
 // a * b / d, rounded down: the creator's part of a fee.
-pub fn mul_div_floor(a: u64, b: u64, d: u64) -> Quotient
+#[tactic(auto, unfolding(crate::specs::Ratio::parts_of, crate::specs::Ratio::floor_of, crate::specs::Ratio::fit))]
+pub fn mul_div_floor(a: u64, b: u64, d: u64) -> Result<u64, NoQuotient>
     ensures { result ≡ floor_of (a * b) d }
 {
-    match mul_div(a, b, d) {
-        Parts::Fits(parts) => Quotient::Fits(parts.quotient),
-        Parts::Past => Quotient::Past,
-        Parts::NoDivisor => Quotient::NoDivisor,
-    }
+    Ok(mul_div(a, b, d)?.quotient)
 }
 
 // a * b / d, rounded up: input by output.
-pub fn mul_div_ceil(a: u64, b: u64, d: u64) -> Quotient
+#[tactic(auto, using(crate::proofs::Rounding::floor_le_ceil, crate::proofs::Rounding::ceil_exact, crate::proofs::Rounding::ceil_more), unfolding(crate::specs::Ratio::parts_of, crate::specs::Ratio::ceil_of, crate::specs::Ratio::fit))]
+pub fn mul_div_ceil(a: u64, b: u64, d: u64) -> Result<u64, NoQuotient>
     ensures { result ≡ ceil_of (a * b) d }
 {
-    match mul_div(a, b, d) {
-        Parts::Fits(parts) => {
-            let quotient = parts.quotient;
-            if parts.remainder == 0 {
-                return Quotient::Fits(quotient);
-            }
-            if quotient < u64::MAX {
-                Quotient::Fits(quotient + 1)
-            } else {
-                Quotient::Past
-            }
-        }
-        Parts::Past => Quotient::Past,
-        Parts::NoDivisor => Quotient::NoDivisor,
+    let parts = mul_div(a, b, d)?;
+    if parts.remainder == 0 {
+        return Ok(parts.quotient);
     }
+    parts.quotient.checked_add(1).ok_or(NoQuotient::Past)
 }
 
 // n / (x + y), where that fits a u64. A sum of 65 bits is halved with n: the quotient of the halves is right or one too high.
@@ -99,12 +79,12 @@ pub fn div_by_sum(n: U128, x: u64, y: u64) -> u64
 }
 
 // a * b / (x + y), rounded down: divisors reach 65 bits, since net plus input can pass 2^64. Such a sum is above any high half, so its quotient fits.
-pub fn mul_div_sum(a: u64, b: u64, x: u64, y: u64) -> Quotient
+pub fn mul_div_sum(a: u64, b: u64, x: u64, y: u64) -> Result<u64, NoQuotient>
     ensures { result ≡ floor_of (a * b) (x + y) }
 {
     if x <= u64::MAX - y {
         mul_div_floor(a, b, x + y)
     } else {
-        Quotient::Fits(div_by_sum(widening_mul(a, b), x, y))
+        Ok(div_by_sum(widening_mul(a, b), x, y))
     }
 }

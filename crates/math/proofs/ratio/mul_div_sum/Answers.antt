@@ -4,7 +4,7 @@ use Prim.Native.Nat.{ℕ, ◌+◌, ◌-◌, ◌*◌, ◌/◌, ◌^◌, ◌<◌}
 use native.Mathlib.Nat.{lt_of_le_of_lt}
 use Prim.Native.Nat.{zero-le}
 use native.Mathlib.Omega.{arith}
-use Rattle.math.specs.declared.ratio.Quotient.TheVariants as Q
+use Rattle.std.specs.Prelude.{Ok}
 use Rattle.math.proofs.Rounding.{floor_fits}
 use Rattle.divide.proofs.Long.{halves_fit}
 use borrow.Author.Rules.{rules}
@@ -29,5 +29,5 @@ returns-else-x-y c =
     let a = c.args in
     let product = c.widening_mul.ensures in
     let fits = subst (λ (n : ℕ). n / (a.x + a.y) < 2 ^ 64) product (halves_fit _ _ _ (above here.After-widening_mul) (low_lt here.After-widening_mul)) in
-    ap Q.Fits (c.div_by_sum.ensures ∙ ap (λ (n : ℕ). n / (a.x + a.y)) product)
+    ap Ok (c.div_by_sum.ensures ∙ ap (λ (n : ℕ). n / (a.x + a.y)) product)
     ∙ sym (floor_fits (a.a * a.b) (a.x + a.y) (lt_of_le_of_lt zero-le (above here.After-widening_mul)) fits)
