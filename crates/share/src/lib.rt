@@ -5,17 +5,14 @@ ghost use Rattle.std.specs.Prelude.{◌&&◌, ◌≡◌, ◌*◌, ◌/◌, ◌^�
 ghost use Rattle.divide.specs.Division.{ceil_div};
 ghost use Rattle.math.specs.Ratio.{ceil_of};
 
-use math::ratio::Quotient;
+use math::ratio::NoQuotient;
 
 // Whether amount and whole are so small that their product has 64 bits, with room for rounding up. Most are, and then one division is
 // enough.
 fn is_short(amount: u64, whole: u64) -> bool
     ensures { result ≡ ltb amount (2 ^ 44) && leb whole (2 ^ 20) }
 {
-    if amount >= 0x1000_0000_0000 {
-        return false;
-    }
-    whole <= 0x10_0000
+    amount < 0x1000_0000_0000 && whole <= 0x10_0000
 }
 
 // amount * rate / whole, rounded down: protocol, fund and shared part.
@@ -41,22 +38,15 @@ pub fn share_ceil(amount: u64, rate: u64, whole: u64) -> u64
 }
 
 // amount * whole / part, rounded up: the amount before fees, of which the part stays after them.
-pub fn scale_ceil(amount: u64, whole: u64, part: u64) -> Quotient
+#[tactic(auto, unfolding(math::specs::Ratio::ceil_of, math::specs::Ratio::fit))]
+pub fn scale_ceil(amount: u64, whole: u64, part: u64) -> Result<u64, NoQuotient>
     requires { (0 < part) × (part ≤ whole) × (whole ≤ 2 ^ 32) }
     ensures { result ≡ ceil_of (amount * whole) part }
 {
     if is_short(amount, whole) {
-        return Quotient::Fits((amount * whole + (part - 1)) / part);
+        return Ok((amount * whole + (part - 1)) / part);
     }
-    let times = amount / part;
     let rest = (amount % part * whole + (part - 1)) / part;
-    if u64::MAX / whole < times {
-        return Quotient::Past;
-    }
-    let scaled = times * whole;
-    if rest <= u64::MAX - scaled {
-        Quotient::Fits(scaled + rest)
-    } else {
-        Quotient::Past
-    }
+    let scaled = (amount / part).checked_mul(whole).ok_or(NoQuotient::Past)?;
+    scaled.checked_add(rest).ok_or(NoQuotient::Past)
 }
