@@ -1,12 +1,14 @@
 -- What a function called alone answers: each case's number and value.
-use Rattle.std.specs.Prelude.{ℕ}
-use Rattle.math.specs.declared.ratio.Quotient.{Quotient}
-use Rattle.math.specs.declared.ratio.Quotient.TheVariants as Q
-use Rattle.answer.specs.declared.Answer.{Answer}
-use Rattle.answer.specs.declared.Answer.TheVariants.{Amount, Refused}
+use Rattle.std.specs.Prelude.{Result, Ok, Err, ℕ}
+use Rattle.math.specs.declared.ratio.NoQuotient.TheVariants.{Past, NoDivisor}
+use Rattle.math.specs.Ratio.{Quotient}
+
+-- an amount, or the number that refuses
+abbrev pub Answer : Type 0
+Answer = Result ℕ ℕ
 
 -- a quotient: `none` is the number where there is no divisor, `over` where the result is past u64
 abbrev pub answer_of : ℕ → ℕ → Quotient → Answer
-answer_of none over (Q.Fits q) = Amount q
-answer_of none over Q.Past = Refused over
-answer_of none over Q.NoDivisor = Refused none
+answer_of none over (Ok q) = Ok q
+answer_of none over (Err Past) = Err over
+answer_of none over (Err NoDivisor) = Err none
