@@ -1,4 +1,3 @@
 pub mod Rest
-pub mod Sent
 pub mod FarEnds
 pub mod Parts

@@ -1,10 +1,10 @@
 -- The laws of a token's charge: what it takes and what it leaves of an amount, and that the amount sent for another is the least which leaves it.
 -- Assumes nothing.
-use mathlib.Core.Path.{◌≡◌, refl, sym, ◌∙◌}
+use mathlib.Core.Path.{◌≡◌, refl, sym, ap, ◌∙◌}
 use mathlib.Core.Bool.{Bool, true, false, cond}
 use mathlib.Core.Logic.{inl, inr, ⊎_elim}
-use Prim.Native.Nat.{ℕ, zero, suc, ◌+◌, ◌-◌, ◌*◌, ◌<◌, ◌≤◌, min}
-use native.Mathlib.Nat.{mul-le-mul_right, mul-zero}
+use Prim.Native.Nat.{ℕ, zero, suc, ◌+◌, ◌-◌, ◌*◌, ◌/◌, ◌<◌, ◌≤◌, min}
+use native.Mathlib.Nat.{add_comm, add-mul-div_right, mul-le-mul_right, mul-zero}
 use native.Mathlib.Numerals.{add-one}
 use native.Mathlib.Omega.{arith}
 use lib.Dec.{ltb, eqb}
@@ -119,6 +119,19 @@ module _ (c : Charge) (high : ten_thousand ≤ c.points) where
       go : (b : Bool) → eqb w 0 ≡ b → w + cond b 0 c.maximum ≤ n → w ≤ n - min c.maximum n
       go true e h = omega (arith, eqb-true w 0 e)
       go false e h = omega arith
+
+-- ---- by the points alone
+-- scaled up by p + q of q is p of q above it
+scaled_by : (p q w : ℕ) → 0 < q → ceil_div (w * (p + q)) q ≡ w + ceil_div (w * p) q
+scaled_by p q w pos =
+    ap (λ (x : ℕ). x / q) (omega arith)
+    ∙ add-mul-div_right (w * p + (q - 1)) w pos
+    ∙ add_comm (ceil_div (w * p) q) w
+
+pub scaled : (points w : ℕ) → points < ten_thousand → ceil_div (w * ten_thousand) (ten_thousand - points) ≡ w + ceil_div (w * points) (ten_thousand - points)
+scaled points w low =
+    let whole : points + (ten_thousand - points) ≡ ten_thousand = omega arith in
+    rw whole at (scaled_by points (ten_thousand - points) w (omega arith))
 
 -- ---- w arrives of n exactly where the least sent for w is at most n
 module _ (c : Charge) where

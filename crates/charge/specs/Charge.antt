@@ -1,11 +1,10 @@
 -- Document 02 (c), 'Transfer charge': what a token's charge takes of an amount, what reaches the other side, and what is to be sent so that
 -- an amount does.
-use Rattle.std.specs.Prelude.{ℕ, ◌+◌, ◌-◌, ◌*◌, min, cond, [], ◌∷◌, ltb, eqb}
+use Rattle.std.specs.Prelude.{Ok, Err, ℕ, ◌+◌, ◌-◌, ◌*◌, min, cond, [], ◌∷◌, ltb, eqb}
 use Rattle.refusal.specs.Refusal.{transfer_fee_calculate_not_match}
 use Rattle.refusal.specs.Tests.{Tests, past, outcome}
 use Rattle.divide.specs.Division.{ceil_div}
-use Rattle.answer.specs.declared.Answer.{Answer}
-use Rattle.answer.specs.declared.Answer.TheVariants.{Amount, Refused}
+use Rattle.answer.specs.Answer.{Answer}
 use Rattle.charge.specs.declared.Charge.{Charge}
 use Rattle.charge.specs.declared.Charges.{Charges}
 use Rattle.charge.specs.declared.Charged.{Charged}
@@ -40,7 +39,7 @@ sent_tests c w = (past (least_sent c w), transfer_fee_calculate_not_match) ∷ [
 
 -- ---- `get_transfer_inverse_fee`: the charge on that least amount, or 14. `get_transfer_fee` is `charge_on`
 unfoldable pub inverse_fee : Charge → ℕ → Answer
-inverse_fee c w = outcome (sent_tests c w) Refused (Amount (charge_for c w))
+inverse_fee c w = outcome (sent_tests c w) Err (Ok (charge_for c w))
 
 -- ---- a pool's two tokens
 abbrev pub no_charge : Charge

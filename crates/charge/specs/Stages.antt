@@ -1,9 +1,8 @@
 -- What the private steps of this crate answer. No public definition rests on these.
-use Rattle.std.specs.Prelude.{ℕ, ◌-◌, ◌*◌, ◌<◌, ◌≤◌, ◌≡◌, cond, ltb, eqb}
+use Rattle.std.specs.Prelude.{Ok, Err, ℕ, ◌-◌, ◌*◌, ◌<◌, ◌≤◌, ◌≡◌, cond, ltb, eqb}
 use Rattle.divide.specs.Division.{ceil_div}
-use Rattle.math.specs.declared.ratio.Quotient.{Quotient}
-use Rattle.math.specs.declared.ratio.Quotient.TheVariants.{Fits, Past}
-use Rattle.math.specs.Ratio.{ceil_of}
+use Rattle.math.specs.declared.ratio.NoQuotient.TheVariants.{Past}
+use Rattle.math.specs.Ratio.{Quotient, ceil_of}
 use Rattle.charge.specs.Charge.{ten_thousand}
 
 -- what the points take of n where no maximum caps the charge
@@ -13,4 +12,4 @@ pub record ChargedByPoints (points n taken : ℕ) : Type 0 where
 
 -- what is sent for w where no maximum caps the charge
 unfoldable pub sent_by_points : ℕ → ℕ → Quotient
-sent_by_points points w = cond (ltb points ten_thousand) (ceil_of (w * ten_thousand) (ten_thousand - points)) (cond (eqb w 0) (Fits 0) Past)
+sent_by_points points w = cond (ltb points ten_thousand) (ceil_of (w * ten_thousand) (ten_thousand - points)) (cond (eqb w 0) (Ok 0) (Err Past))

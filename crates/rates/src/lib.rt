@@ -2,13 +2,13 @@
 // 'constant_product.rs, then calculator.rs', with document 02 (c)).
 #![tactic(auto)]
 
-ghost use Rattle.std.specs.Prelude.{◌≡◌};
-ghost use Rattle.refusal.specs.Tests.{first};
+ghost use Rattle.std.specs.Prelude.{◌≡◌, ◌+◌, ltb};
+ghost use Rattle.refusal.specs.Tests.{tested};
 ghost use Rattle.rates.specs.Rates.{rate_limits, rate_tests, creator_rate, on_input};
 
 use charge::Charges;
 use fees::FEE_RATE_DENOMINATOR_VALUE;
-use refusal::{ACCEPTED, INVALID_INPUT};
+use refusal::{Refusal, refuse_if};
 
 // A pool's rates, in millionths.
 #[derive(Clone, Copy)]
@@ -34,55 +34,53 @@ pub struct Terms {
 const HIGHEST_FEE_RATE: u64 = 999_999;
 
 // Fee model 0 means input always, 1 input if token 0 goes in, 2 input if token 1 goes in.
+#[tactic(auto, unfolding(crate::specs::Rates::on_input))]
 pub fn is_creator_fee_on_input(fee_model: u64, zero_in: bool) -> bool
     ensures { result ≡ on_input fee_model zero_in }
 {
-    if fee_model == 0 {
-        return true;
+    match fee_model {
+        0 => true,
+        1 => zero_in,
+        2 => !zero_in,
+        _ => false,
     }
-    if fee_model == 1 {
-        return zero_in;
-    }
-    if fee_model == 2 {
-        return !zero_in;
-    }
-    false
 }
 
-// The rate limits' number: the sums are tested by differences, so that none wraps.
-pub fn limit_number(rates: Rates, creator_rate: u64) -> u64
-    ensures { result ≡ first (rate_limits rates creator_rate) }
+// Whether a sum passes a limit, tested by a difference, so that it doesn't wrap.
+fn sum_above(a: u64, b: u64, limit: u64) -> bool
+    ensures { result ≡ ltb limit (a + b) }
 {
-    let trade = rates.trade;
-    let protocol = rates.protocol;
-    let fund = rates.fund;
-    if trade > HIGHEST_FEE_RATE {
-        return INVALID_INPUT;
-    }
-    if creator_rate > HIGHEST_FEE_RATE - trade {
-        return INVALID_INPUT;
-    }
-    if protocol > FEE_RATE_DENOMINATOR_VALUE {
-        return INVALID_INPUT;
-    }
-    if fund > FEE_RATE_DENOMINATOR_VALUE - protocol {
-        return INVALID_INPUT;
-    }
-    ACCEPTED
+    a > limit || b > limit - a
 }
 
-// The rates of an opening: these limits, and share above 1,000,000, 3; or 0.
-pub fn rate_number(rates: Rates) -> u64
-    ensures { result ≡ first (rate_tests rates) }
-{
-    let limit = limit_number(rates, rates.creator);
-    if limit != ACCEPTED {
-        return limit;
+impl Rates {
+    // The limits on trade + creator and protocol + fund, for a creator rate that may not be the pool's own, 3.
+    #[tactic(auto, unfolding(crate::specs::Rates::rate_limits, refusal::specs::Tests::tested))]
+    pub fn check_limits(self, creator_rate: u64) -> Result<(), Refusal>
+        ensures { result ≡ tested (rate_limits self creator_rate) }
+    {
+        refuse_if(&[
+            (
+                sum_above(self.trade, creator_rate, HIGHEST_FEE_RATE),
+                Refusal::INVALID_INPUT,
+            ),
+            (
+                sum_above(self.protocol, self.fund, FEE_RATE_DENOMINATOR_VALUE),
+                Refusal::INVALID_INPUT,
+            ),
+        ])
     }
-    if rates.share > FEE_RATE_DENOMINATOR_VALUE {
-        return INVALID_INPUT;
+
+    // The rates of an opening: these limits, and share above 1,000,000, 3.
+    pub fn check(self) -> Result<(), Refusal>
+        ensures { result ≡ tested (rate_tests self) }
+    {
+        self.check_limits(self.creator)?;
+        refuse_if(&[(
+            self.share > FEE_RATE_DENOMINATOR_VALUE,
+            Refusal::INVALID_INPUT,
+        )])
     }
-    ACCEPTED
 }
 
 impl Terms {
@@ -90,8 +88,6 @@ impl Terms {
     pub fn adjust_creator_fee_rate(self) -> u64
         ensures { result ≡ creator_rate self }
     {
-        let enabled = self.enabled;
-        let creator = self.rates.creator;
-        if enabled { creator } else { 0 }
+        if self.enabled { self.rates.creator } else { 0 }
     }
 }

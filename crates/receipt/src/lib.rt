@@ -2,12 +2,13 @@
 #![tactic(auto)]
 
 ghost use Rattle.std.specs.Prelude.{◌≡◌};
-ghost use Rattle.receipt.specs.Receipt.{nothing_paid, no_trade, nothing_shared, refusal, refused_books, amounts};
+ghost use Rattle.receipt.specs.Receipt.{refusal, refused_books, amounts};
 
 use accounting::Books;
-use charge::{Charged, nothing_charged};
+use charge::Charged;
 
-// The kinds of calls, numbered as the rows of the day sheet are.
+// The kinds of calls, numbered as the rows of the day sheet are. A receipt holds its kind and its number as plain numbers, since its words over plain
+// memory, which the C interface shows, are these.
 pub const OPENING: u64 = 1;
 
 pub const SWAP_BASE_INPUT: u64 = 2;
@@ -22,8 +23,8 @@ pub const SETTLE_CREATOR_FEE: u64 = 6;
 
 pub const SET_STATUS: u64 = 7;
 
-// An accepted call's number is 0. A refused call's receipt holds its number and zeros.
-#[derive(Clone, Copy)]
+// An accepted call's number is 0. A refused call's receipt holds its number and zeros. Each part is zeros where it has no meaning.
+#[derive(Clone, Copy, Default)]
 pub struct Receipt {
     pub number: u64,
     pub kind: u64,
@@ -34,7 +35,7 @@ pub struct Receipt {
 }
 
 // What reached the vaults and what left them, and the LP tokens that were issued or burnt.
-#[derive(Clone, Copy)]
+#[derive(Clone, Copy, Default)]
 pub struct Paid {
     pub in0: u64,
     pub in1: u64,
@@ -44,7 +45,7 @@ pub struct Paid {
 }
 
 // What only a swap has.
-#[derive(Clone, Copy)]
+#[derive(Clone, Copy, Default)]
 pub struct Trade {
     pub direction: u64,
     pub clock: u64,
@@ -56,7 +57,7 @@ pub struct Trade {
 }
 
 // The shared parts of a settlement.
-#[derive(Clone, Copy)]
+#[derive(Clone, Copy, Default)]
 pub struct Shared {
     pub shared0: u64,
     pub shared1: u64,
@@ -69,69 +70,30 @@ pub struct BooksAfter {
     pub receipt: Receipt,
 }
 
-// Each part is zeros where it has no meaning.
-pub fn nothing_paid() -> Paid
-    ensures { result ≡ nothing_paid }
-{
-    Paid {
-        in0: 0,
-        in1: 0,
-        out0: 0,
-        out1: 0,
-        lp: 0,
-    }
-}
-
-pub fn no_trade() -> Trade
-    ensures { result ≡ no_trade }
-{
-    Trade {
-        direction: 0,
-        clock: 0,
-        trade_fee: 0,
-        protocol_fee: 0,
-        fund_fee: 0,
-        creator_fee: 0,
-        creator_fee_token: 0,
-    }
-}
-
-pub fn nothing_shared() -> Shared
-    ensures { result ≡ nothing_shared }
-{
-    Shared {
-        shared0: 0,
-        shared1: 0,
-    }
-}
-
 // A refused call's receipt: its number and zeros.
+#[tactic(auto, unfolding(crate::specs::Receipt::refusal))]
 pub fn refusal_receipt(number: u64) -> Receipt
     ensures { result ≡ refusal number }
 {
-    let paid = nothing_paid();
-    let trade = no_trade();
-    let shared = nothing_shared();
-    let charged = nothing_charged();
     Receipt {
         number,
-        kind: 0,
-        paid,
-        trade,
-        shared,
-        charged,
+        ..Receipt::default()
     }
 }
 
 // A refused call leaves the books as they were.
+#[tactic(auto, unfolding(crate::specs::Receipt::refused_books))]
 pub fn refuse_books(books: Books, number: u64) -> BooksAfter
     ensures { result ≡ refused_books books number }
 {
-    let receipt = refusal_receipt(number);
-    BooksAfter { books, receipt }
+    BooksAfter {
+        books,
+        receipt: refusal_receipt(number),
+    }
 }
 
 // The receipt of an accepted call without fees.
+#[tactic(auto, unfolding(crate::specs::Receipt::amounts))]
 pub fn amounts_receipt(
     kind: u64,
     in0: u64,
@@ -143,10 +105,7 @@ pub fn amounts_receipt(
 ) -> Receipt
     ensures { result ≡ amounts kind in0 in1 out0 out1 lp charged }
 {
-    let trade = no_trade();
-    let shared = nothing_shared();
     Receipt {
-        number: 0,
         kind,
         paid: Paid {
             in0,
@@ -155,8 +114,7 @@ pub fn amounts_receipt(
             out1,
             lp,
         },
-        trade,
-        shared,
         charged,
+        ..Receipt::default()
     }
 }
