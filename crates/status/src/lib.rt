@@ -3,10 +3,11 @@
 
 ghost use Rattle.std.specs.Prelude.{◌≡◌, ◌≤◌};
 ghost use Rattle.status.specs.Status.{flagged, status_after};
+ghost use Rattle.status.specs.Stages.{changed_status};
 
 use charge::nothing_charged;
 use receipt::{Receipt, SET_STATUS, amounts_receipt, refusal_receipt};
-use refusal::{ACCEPTED, INVALID_INPUT, first2};
+use refusal::{Refusal, refuse_if};
 
 // The status after a change, and the receipt.
 #[derive(Clone, Copy)]
@@ -16,6 +17,7 @@ pub struct StatusAfter {
 }
 
 // The status with one bit cleared (flag 0) or set (flag 1); the other bits stay. No branch on the bit.
+#[tactic(auto, using(crate::proofs::Places::set_fits, crate::proofs::Places::set_is), unfolding(crate::specs::Status::flagged))]
 fn with_bit(status: u64, bit: u64, flag: u64) -> u64
     requires { (bit ≤ 2) × (flag ≤ 1) }
     ensures { result ≡ flagged bit flag status }
@@ -24,20 +26,34 @@ fn with_bit(status: u64, bit: u64, flag: u64) -> u64
     status - (status >> bit) % 2 * place + flag * place
 }
 
+// Bit above 2 or flag above 1, 3; else the status with the bit as the flag says.
+#[tactic(auto, unfolding(crate::specs::Status::status_tests, refusal::specs::Tests::outcome, refusal::specs::Tests::tested))]
+fn changed(status: u64, bit: u64, flag: u64) -> Result<u64, Refusal>
+    ensures { result ≡ changed_status status bit flag }
+{
+    refuse_if(&[
+        (bit > 2, Refusal::INVALID_INPUT),
+        (flag > 1, Refusal::INVALID_INPUT),
+    ])?;
+    Ok(with_bit(status, bit, flag))
+}
+
 // Bit above 2 or flag above 1, 3, with the status as it was; flag 0 clears, 1 sets.
+#[tactic(auto, unfolding(crate::specs::Status::status_tests, crate::specs::Status::status_after, refusal::specs::Tests::outcome))]
 pub fn decide(status: u64, bit: u64, flag: u64) -> StatusAfter
     ensures { result ≡ status_after status bit flag }
 {
-    let number = first2(bit > 2, INVALID_INPUT, flag > 1, INVALID_INPUT);
-    if number != ACCEPTED {
-        let receipt = refusal_receipt(number);
-        return StatusAfter { status, receipt };
-    }
-    let next = with_bit(status, bit, flag);
-    let charged = nothing_charged();
-    let receipt = amounts_receipt(SET_STATUS, 0, 0, 0, 0, 0, charged);
-    StatusAfter {
-        status: next,
-        receipt,
+    match changed(status, bit, flag) {
+        Err(refusal) => StatusAfter {
+            status,
+            receipt: refusal_receipt(refusal.number()),
+        },
+        Ok(status) => {
+            let charged = nothing_charged();
+            StatusAfter {
+                status,
+                receipt: amounts_receipt(SET_STATUS, 0, 0, 0, 0, 0, charged),
+            }
+        }
     }
 }
