@@ -1,20 +1,16 @@
 // Opening: the books, the terms and the ring's grid of a new pool, from two amounts.
 #![tactic(auto)]
 
-ghost use Rattle.std.specs.Prelude.{◌≡◌, ◌*◌};
-ghost use Rattle.root.specs.Root.{root};
-ghost use Rattle.refusal.specs.Tests.{first};
-ghost use Rattle.opening.specs.Opening.{out_of_range, grid_tests, opening_tests, books_with, zero_terms, refused_opening, opening_after};
+ghost use Rattle.std.specs.Prelude.{◌≡◌};
+ghost use Rattle.opening.specs.Opening.{out_of_range, books_with, opened_terms, zero_terms, refused_opening, opening_after};
+ghost use Rattle.opening.specs.Stages.{opened};
 
 use accounting::{Books, FeeCounters};
 use charge::{Charges, no_charges, nothing_charged};
 use oracle::{Grid, OBSERVATION_NUM};
-use rates::{Rates, Terms, rate_number};
+use rates::{Rates, Terms};
 use receipt::{OPENING, Receipt, amounts_receipt, refusal_receipt};
-use refusal::{
-    ACCEPTED, EMPTY_SUPPLY, INIT_LP_AMOUNT_TOO_LESS, INVALID_FEE_MODEL, INVALID_INPUT, either,
-    first1, first2, first4,
-};
+use refusal::{Refusal, refuse_if};
 use root::isqrt;
 use wide::widening_mul;
 
@@ -56,46 +52,7 @@ pub struct OpeningAfter {
 fn out_of_range(least: u64, most: u64, n: u64) -> bool
     ensures { result ≡ out_of_range least most n }
 {
-    n < least || n > most
-}
-
-// Spacing or length out of range, 3.
-fn grid_number(grid: Grid) -> u64
-    ensures { result ≡ first (grid_tests grid) }
-{
-    let spacing = out_of_range(1, LONGEST_SPACING, grid.spacing);
-    let length = out_of_range(LEAST_LENGTH, OBSERVATION_NUM, grid.length);
-    first2(spacing, INVALID_INPUT, length, INVALID_INPUT)
-}
-
-// An amount 0, 6; model 9; enabled not 0 or 1, the rates, points above 9,999, spacing or length out of range, 3; supply
-// below 101, 13.
-fn opening_number(opening: Opening, supply: u64) -> u64
-    requires { supply ≡ root (opening.amount0 * opening.amount1) }
-    ensures { result ≡ first (opening_tests opening) }
-{
-    let front = first4(
-        opening.amount0 == 0,
-        EMPTY_SUPPLY,
-        opening.amount1 == 0,
-        EMPTY_SUPPLY,
-        opening.model > 2,
-        INVALID_FEE_MODEL,
-        opening.enabled > 1,
-        INVALID_INPUT,
-    );
-    let rates = opening.rates;
-    let rate = rate_number(rates);
-    let points = first2(
-        opening.charges.token0.points > HIGHEST_POINTS,
-        INVALID_INPUT,
-        opening.charges.token1.points > HIGHEST_POINTS,
-        INVALID_INPUT,
-    );
-    let grid = opening.grid;
-    let spaced = grid_number(grid);
-    let last = first1(supply < LEAST_SUPPLY, INIT_LP_AMOUNT_TOO_LESS);
-    either(front, either(rate, either(points, either(spaced, last))))
+    !(least..=most).contains(&n)
 }
 
 // Counters start at 0.
@@ -120,7 +77,6 @@ fn books_with(amount0: u64, amount1: u64, supply: u64) -> Books
 fn zero_terms() -> Terms
     ensures { result ≡ zero_terms }
 {
-    let charges = no_charges();
     Terms {
         rates: Rates {
             trade: 0,
@@ -129,7 +85,7 @@ fn zero_terms() -> Terms
             creator: 0,
             share: 0,
         },
-        charges,
+        charges: no_charges(),
         fee_model: 0,
         open_time: 0,
         enabled: false,
@@ -137,49 +93,80 @@ fn zero_terms() -> Terms
 }
 
 // A refused opening gives its number with zeros.
+#[tactic(auto, unfolding(crate::specs::Opening::refused_opening))]
 pub fn refuse_opening(number: u64) -> OpeningAfter
     ensures { result ≡ refused_opening number }
 {
-    let books = books_with(0, 0, 0);
-    let terms = zero_terms();
-    let receipt = refusal_receipt(number);
     OpeningAfter {
-        books,
-        terms,
+        books: books_with(0, 0, 0),
+        terms: zero_terms(),
         grid: Grid {
             spacing: 0,
             length: 0,
         },
-        receipt,
+        receipt: refusal_receipt(number),
     }
 }
 
-pub fn decide(opening: Opening) -> OpeningAfter
-    ensures { result ≡ opening_after opening }
+// What an accepted opening sets for good.
+fn opened_terms(opening: Opening) -> Terms
+    ensures { result ≡ opened_terms opening }
+{
+    Terms {
+        rates: opening.rates,
+        charges: opening.charges,
+        fee_model: opening.model,
+        open_time: opening.open_time,
+        enabled: opening.enabled == 1,
+    }
+}
+
+// An amount 0, 6; model 9; enabled not 0 or 1, the rates, points above 9,999, spacing or length out of range, 3; supply
+// below 101, 13; else what the pool begins with.
+fn open(opening: Opening) -> Result<OpeningAfter, Refusal>
+    ensures { result ≡ opened opening }
 {
     let amount0 = opening.amount0;
     let amount1 = opening.amount1;
-    let supply = isqrt(widening_mul(amount0, amount1));
-    let number = opening_number(opening, supply);
-    if number != ACCEPTED {
-        return refuse_opening(number);
-    }
-    let rates = opening.rates;
-    let charges = opening.charges;
+    refuse_if(&[
+        (amount0 == 0, Refusal::EMPTY_SUPPLY),
+        (amount1 == 0, Refusal::EMPTY_SUPPLY),
+        (opening.model > 2, Refusal::INVALID_FEE_MODEL),
+        (opening.enabled > 1, Refusal::INVALID_INPUT),
+    ])?;
+    opening.rates.check()?;
+    let points0 = opening.charges.token0.points > HIGHEST_POINTS;
+    let points1 = opening.charges.token1.points > HIGHEST_POINTS;
+    refuse_if(&[
+        (points0, Refusal::INVALID_INPUT),
+        (points1, Refusal::INVALID_INPUT),
+    ])?;
     let grid = opening.grid;
-    let books = books_with(amount0, amount1, supply);
+    let spacing = out_of_range(1, LONGEST_SPACING, grid.spacing);
+    let length = out_of_range(LEAST_LENGTH, OBSERVATION_NUM, grid.length);
+    refuse_if(&[
+        (spacing, Refusal::INVALID_INPUT),
+        (length, Refusal::INVALID_INPUT),
+    ])?;
+    let supply = isqrt(widening_mul(amount0, amount1));
+    if supply < LEAST_SUPPLY {
+        return Err(Refusal::INIT_LP_AMOUNT_TOO_LESS);
+    }
     let charged = nothing_charged();
-    let receipt = amounts_receipt(OPENING, amount0, amount1, 0, 0, supply, charged);
-    OpeningAfter {
-        books,
-        terms: Terms {
-            rates,
-            charges,
-            fee_model: opening.model,
-            open_time: opening.open_time,
-            enabled: opening.enabled == 1,
-        },
+    Ok(OpeningAfter {
+        books: books_with(amount0, amount1, supply),
+        terms: opened_terms(opening),
         grid,
-        receipt,
+        receipt: amounts_receipt(OPENING, amount0, amount1, 0, 0, supply, charged),
+    })
+}
+
+// A refusal becomes zeros with its number.
+pub fn decide(opening: Opening) -> OpeningAfter
+    ensures { result ≡ opening_after opening }
+{
+    match open(opening) {
+        Ok(after) => after,
+        Err(refusal) => refuse_opening(refusal.number()),
     }
 }
