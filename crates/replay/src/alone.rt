@@ -53,7 +53,8 @@ pub(crate) fn amount(row: &[u64; ROW_NUMBERS]) -> bool {
     match answer_to(nth(row, 0), nth(row, 2), nth(row, 3), nth(row, 4)) {
         Some(Ok(amount)) => same(row, 5, [0, amount, 0, 0, 0]),
         Some(Err(refusal)) => refused_with(row, 5, refusal),
-        None => false,
+        // No row has this answer.
+        None => same(row, 5, [99, 0, 0, 0, 0]),
     }
 }
 
