@@ -3,7 +3,7 @@ use Rattle.std.proofs.Common.{◌≡◌, ℕ, ◌+◌, ◌-◌, ◌*◌, ◌/◌
 use native.Mathlib.Nat.{add-mul-div_right, mul-div-mul_right}
 use lib.Arith.{digits_div, digits_mod}
 use Rattle.divide.specs.declared.Divided.{Divided}
-use Rattle.divide.specs.declared.DividedWide.{DividedWide}
+use Rattle.wide.specs.declared.U128.{U128}
 use Rattle.divide.specs.Division.{divided, divided_wide}
 use Rattle.wide.specs.Steps.{Divides}
 use Rattle.wide.proofs.Halves.{spread, shl_half}
@@ -19,14 +19,14 @@ remainder_is {n} {d} {q} {r} w = sym (digits_mod q w.less) ∙ ap (λ (x : ℕ).
 divides : (n : ℕ) {d : ℕ} → 0 < d → Divides n d (n / d) (n % d)
 divides n {d} h = record { whole = div-add-mod' n d; less = mod-lt n h }
 
-pub of_divided : (n d : ℕ) {p : Divided} → 0 < d → p ≡ divided n d → Divides n d p.quotient p.remainder
-of_divided n d h e = subst (λ (p : Divided). Divides n d p.quotient p.remainder) (sym e) (divides n h)
+pub of_divided : (n d : ℕ) {p : Divided ℕ} → 0 < d → p ≡ divided n d → Divides n d p.quotient p.remainder
+of_divided n d h e = subst (λ (p : Divided ℕ). Divides n d p.quotient p.remainder) (sym e) (divides n h)
 
 -- a quotient's bound
 quotient_lt : {n d q r : ℕ} (k : ℕ) → Divides n d q r → n < k * d → q < k
 quotient_lt {n} {d} {q} {r} k w h = lt_of_mul-lt-mul_right d (lt_of_le_of_lt (le-add_right (q * d) r) (subst (λ (x : ℕ). x < k * d) (sym w.whole) h))
 
-pub both : (n d : ℕ) {q r : ℕ} → q ≡ n / d → r ≡ n % d → ◌≡◌ {A = Divided} (record { quotient = q; remainder = r }) (divided n d)
+pub both : (n d : ℕ) {q r : ℕ} → q ≡ n / d → r ≡ n % d → ◌≡◌ {A = Divided ℕ} (record { quotient = q; remainder = r }) (divided n d)
 both n d p e = λ i. record { quotient = p i; remainder = e i }
 
 -- ---- two digits
@@ -94,10 +94,10 @@ pub halves_fit : (high low d : ℕ) → high < d → low < 2 ^ 64 → (high * 2 
 halves_fit high low d hh hl = (div-lt_iff_lt-mul {k = d} {x = high * 2 ^ 64 + low} {y = 2 ^ 64} (omega arith)).1 (omega arith)
 
 pub low_divides :
-    (b l d : ℕ) {r : DividedWide} → b < d → l < 2 ^ 64 → r ≡ divided_wide (b * 2 ^ 64 + l) d → Divides (b * 2 ^ 64 + l) d r.quotient.low r.remainder
+    (b l d : ℕ) {r : Divided U128} → b < d → l < 2 ^ 64 → r ≡ divided_wide (b * 2 ^ 64 + l) d → Divides (b * 2 ^ 64 + l) d r.quotient.low r.remainder
 low_divides b l d hb hl e =
     let n = b * 2 ^ 64 + l in
-    subst (λ (r : DividedWide). Divides n d r.quotient.low r.remainder) (sym e)
+    subst (λ (r : Divided U128). Divides n d r.quotient.low r.remainder) (sym e)
     (subst (λ (q : ℕ). Divides n d q (n % d)) (sym (mod-eq_of_lt (halves_fit b l d hb hl))) (divides n (omega arith)))
 
 pub wide_divides : (h l d a b q r : ℕ) → a * d + b ≡ h → Divides (b * 2 ^ 64 + l) d q r → Divides (h * 2 ^ 64 + l) d (a * 2 ^ 64 + q) r

@@ -8,22 +8,15 @@ ghost use Rattle.wide.specs.Steps.{Divides, Less};
 
 use wide::U128;
 
-// A quotient that fits a u64, and the remainder.
-#[derive(Clone, Copy)]
-pub struct Divided {
-    pub quotient: u64,
-    pub remainder: u64,
-}
-
-// A quotient of up to 128 bits, and the remainder.
-#[derive(Clone, Copy)]
-pub struct DividedWide {
-    pub quotient: U128,
+// A quotient, of a u64 or of up to 128 bits, and the remainder.
+#[derive(Clone, Copy, Debug, PartialEq, Eq)]
+pub struct Divided<Q> {
+    pub quotient: Q,
     pub remainder: u64,
 }
 
 // A u64 by a u64, in one machine division: what the quotient does not take is the remainder.
-pub fn div_rem_short(n: u64, d: u64) -> Divided
+pub fn div_rem_short(n: u64, d: u64) -> Divided<u64>
     requires { 0 < d }
     ensures { result ≡ divided n d }
 {
@@ -38,12 +31,12 @@ pub fn div_rem_short(n: u64, d: u64) -> Divided
 fn less(a: u64, b: u64) -> u64
     ensures { Less a b result }
 {
-    if a < b { 1 } else { 0 }
+    u64::from(a < b)
 }
 
 // One digit of a quotient, and what is left. The estimate by the divisor's upper half is right, or too high by one or two.
 // What it leaves wraps where it is too high; with d added once it is below d, unless d must be added again.
-fn digit(high: u64, low: u64, d: u64) -> Divided
+fn digit(high: u64, low: u64, d: u64) -> Divided<u64>
     requires { (2 ^ 63 ≤ d) × (high < d) × (low < 2 ^ 32) }
     ensures { Divides (high * 2 ^ 32 + low) d result.quotient result.remainder }
 {
@@ -72,7 +65,7 @@ fn norm_shift(d: u64) -> u32
 }
 
 // The quotient and the remainder, where the quotient fits a u64: one machine division, or two digits.
-pub fn div_rem(n: U128, d: u64) -> Divided
+pub fn div_rem(n: U128, d: u64) -> Divided<u64>
     requires { n.high < d }
     ensures { result ≡ divided (value n) d }
 {
@@ -95,13 +88,13 @@ pub fn div_rem(n: U128, d: u64) -> Divided
 
 // Whatever the quotient's size: where the high half is not below d it is divided first, and what it leaves takes its place before the low half.
 // It calls itself (at most once) and so is never inlined: a caller's own short case stays short.
-fn long_division(high: u64, low: u64, d: u64) -> DividedWide
+fn long_division(high: u64, low: u64, d: u64) -> Divided<U128>
     requires { 0 < d }
     ensures { result ≡ divided_wide (high * 2 ^ 64 + low) d }
 {
     if high < d {
         let parts = div_rem(U128 { high, low }, d);
-        return DividedWide {
+        return Divided {
             quotient: U128 {
                 high: 0,
                 low: parts.quotient,
@@ -111,7 +104,7 @@ fn long_division(high: u64, low: u64, d: u64) -> DividedWide
     }
     let upper = div_rem_short(high, d);
     let lower = long_division(upper.remainder, low, d);
-    DividedWide {
+    Divided {
         quotient: U128 {
             high: upper.quotient,
             low: lower.quotient.low,
@@ -121,7 +114,7 @@ fn long_division(high: u64, low: u64, d: u64) -> DividedWide
 }
 
 // The quotient and the remainder, whatever the quotient's size.
-pub fn div_rem_wide(n: U128, d: u64) -> DividedWide
+pub fn div_rem_wide(n: U128, d: u64) -> Divided<U128>
     requires { 0 < d }
     ensures { result ≡ divided_wide (value n) d }
 {

@@ -1,11 +1,10 @@
 -- Document 01, 'math.rs, then fees.rs', with document 02 (a). Rates are in millionths.
 -- 'Called alone these take u64 amounts and rates; none answers 4, a rate sum or result past 2^64 − 1 answers 8.'
-use Rattle.std.specs.Prelude.{ℕ, ◌+◌, ◌*◌, ◌-◌, ◌/◌, cond, [], ◌∷◌, leb, eqb}
+use Rattle.std.specs.Prelude.{Ok, Err, ℕ, ◌+◌, ◌*◌, ◌-◌, ◌/◌, cond, [], ◌∷◌, leb, eqb}
 use Rattle.divide.specs.Division.{ceil_div}
 use Rattle.refusal.specs.Refusal.{zero_trading_tokens, math_overflow}
 use Rattle.refusal.specs.Tests.{outcome, past}
-use Rattle.answer.specs.declared.Answer.{Answer}
-use Rattle.answer.specs.declared.Answer.TheVariants.{Amount, Refused}
+use Rattle.answer.specs.Answer.{Answer}
 
 abbrev pub million : ℕ
 million = 1000000
@@ -27,10 +26,10 @@ pre_fee amount rate = cond (eqb rate 0) amount (ceil_div (amount * million) (mil
 
 -- ---- called alone
 unfoldable pub ceil_fee : ℕ → ℕ → Answer
-ceil_fee amount rate = outcome ((past (fee_up amount rate), math_overflow) ∷ []) Refused (Amount (fee_up amount rate))
+ceil_fee amount rate = outcome ((past (fee_up amount rate), math_overflow) ∷ []) Err (Ok (fee_up amount rate))
 
 unfoldable pub floor_fee : ℕ → ℕ → Answer
-floor_fee amount rate = outcome ((past (fee_down amount rate), math_overflow) ∷ []) Refused (Amount (fee_down amount rate))
+floor_fee amount rate = outcome ((past (fee_down amount rate), math_overflow) ∷ []) Err (Ok (fee_down amount rate))
 
 -- trading and creator fee: rounded up
 abbrev pub trading_fee : ℕ → ℕ → Answer
@@ -56,8 +55,8 @@ split_creator_fee total trade creator =
     ((past (trade + creator), math_overflow)
     ∷ (past (split total trade creator), math_overflow)
     ∷ [])
-    Refused
-    (Amount (split total trade creator))
+    Err
+    (Ok (split total trade creator))
 
 -- none at 1,000,000 or more
 unfoldable pub calculate_pre_fee_amount : ℕ → ℕ → Answer
@@ -66,5 +65,5 @@ calculate_pre_fee_amount amount rate =
     ((leb million rate, zero_trading_tokens)
     ∷ (past (pre_fee amount rate), math_overflow)
     ∷ [])
-    Refused
-    (Amount (pre_fee amount rate))
+    Err
+    (Ok (pre_fee amount rate))

@@ -7,7 +7,7 @@ ghost use Rattle.fees.specs.Fees.{split, ceil_fee, floor_fee, trading_fee, proto
 
 use answer::{Answer, from_quotient};
 use math::ratio::{div_by_sum, mul_div_ceil, mul_div_floor};
-use refusal::{MATH_OVERFLOW, ZERO_TRADING_TOKENS};
+use refusal::Refusal;
 use share::{scale_ceil, share_ceil, share_floor};
 use wide::widening_mul;
 
@@ -18,25 +18,27 @@ pub const FEE_RATE_DENOMINATOR_VALUE: u64 = 1_000_000;
 const NARROW: u64 = 0x8000_0000;
 
 // amount × rate / 1,000,000, rounded up. A rate of at most the whole takes no 128-bit division.
+#[tactic(auto, using(math::proofs::Rounding::share_ceil_le), unfolding(crate::specs::Fees::ceil_fee, crate::specs::Fees::fee_up, math::specs::Ratio::ceil_of, math::specs::Ratio::fit, refusal::specs::Tests::outcome))]
 fn ceil_div(amount: u64, rate: u64) -> Answer
     ensures { result ≡ ceil_fee amount rate }
 {
     if rate <= FEE_RATE_DENOMINATOR_VALUE {
-        return Answer::Amount(share_ceil(amount, rate, FEE_RATE_DENOMINATOR_VALUE));
+        return Ok(share_ceil(amount, rate, FEE_RATE_DENOMINATOR_VALUE));
     }
     let fee = mul_div_ceil(amount, rate, FEE_RATE_DENOMINATOR_VALUE);
-    from_quotient(fee, ZERO_TRADING_TOKENS, MATH_OVERFLOW)
+    from_quotient(fee, Refusal::ZERO_TRADING_TOKENS, Refusal::MATH_OVERFLOW)
 }
 
-// amount × rate / 1,000,000, rounded down, likewise.
+// amount × rate / 1,000,000, rounded down, likewise. Both functions that it calls are others than above: one over closures would be no plainer.
+#[tactic(auto, using(math::proofs::Rounding::share_floor_le), unfolding(crate::specs::Fees::floor_fee, crate::specs::Fees::fee_down, math::specs::Ratio::floor_of, math::specs::Ratio::fit, refusal::specs::Tests::outcome))]
 fn floor_div(amount: u64, rate: u64) -> Answer
     ensures { result ≡ floor_fee amount rate }
 {
     if rate <= FEE_RATE_DENOMINATOR_VALUE {
-        return Answer::Amount(share_floor(amount, rate, FEE_RATE_DENOMINATOR_VALUE));
+        return Ok(share_floor(amount, rate, FEE_RATE_DENOMINATOR_VALUE));
     }
     let fee = mul_div_floor(amount, rate, FEE_RATE_DENOMINATOR_VALUE);
-    from_quotient(fee, ZERO_TRADING_TOKENS, MATH_OVERFLOW)
+    from_quotient(fee, Refusal::ZERO_TRADING_TOKENS, Refusal::MATH_OVERFLOW)
 }
 
 pub fn trading_fee(amount: u64, trade_fee_rate: u64) -> Answer
@@ -72,6 +74,7 @@ pub fn creator_fee_shared_amount(amount: u64, share_rate: u64) -> Answer
 
 // The creator's part of a fee that was taken at both rates together: 0 at a creator rate of 0, so also where both rates are 0 (document 02
 // (a)). It is at most the fee, so it fits at any rates. Narrow ones take no 128-bit division.
+#[tactic(auto, unfolding(crate::specs::Fees::split))]
 pub fn creator_part(total_fee: u64, trade_fee_rate: u64, creator_fee_rate: u64) -> u64
     ensures { result ≡ split total_fee trade_fee_rate creator_fee_rate }
 {
@@ -87,28 +90,34 @@ pub fn creator_part(total_fee: u64, trade_fee_rate: u64, creator_fee_rate: u64) 
 }
 
 // That part; 8 where the rates' sum is past u64.
+#[tactic(auto, using(crate::proofs::Shares::split_le), unfolding(crate::specs::Fees::split_creator_fee, refusal::specs::Tests::outcome))]
 pub fn split_creator_fee(total_fee: u64, trade_fee_rate: u64, creator_fee_rate: u64) -> Answer
     ensures { result ≡ split_creator_fee total_fee trade_fee_rate creator_fee_rate }
 {
-    if trade_fee_rate > u64::MAX - creator_fee_rate {
-        return Answer::Refused(MATH_OVERFLOW);
-    }
-    Answer::Amount(creator_part(total_fee, trade_fee_rate, creator_fee_rate))
+    trade_fee_rate
+        .checked_add(creator_fee_rate)
+        .ok_or(Refusal::MATH_OVERFLOW)?;
+    Ok(creator_part(total_fee, trade_fee_rate, creator_fee_rate))
 }
 
 // The least amount that leaves `post_fee_amount` after a fee at the rate.
+#[tactic(auto, unfolding(crate::specs::Fees::calculate_pre_fee_amount, crate::specs::Fees::pre_fee, math::specs::Ratio::ceil_of, math::specs::Ratio::fit, refusal::specs::Tests::outcome))]
 pub fn calculate_pre_fee_amount(post_fee_amount: u64, trade_fee_rate: u64) -> Answer
     ensures { result ≡ calculate_pre_fee_amount post_fee_amount trade_fee_rate }
 {
     if trade_fee_rate == 0 {
-        return Answer::Amount(post_fee_amount);
+        return Ok(post_fee_amount);
     }
     if trade_fee_rate >= FEE_RATE_DENOMINATOR_VALUE {
-        return Answer::Refused(ZERO_TRADING_TOKENS);
+        return Err(Refusal::ZERO_TRADING_TOKENS);
     }
     let left = FEE_RATE_DENOMINATOR_VALUE - trade_fee_rate;
-    let pre_fee_amount = scale_ceil(post_fee_amount, FEE_RATE_DENOMINATOR_VALUE, left);
-    from_quotient(pre_fee_amount, ZERO_TRADING_TOKENS, MATH_OVERFLOW)
+    let quotient = scale_ceil(post_fee_amount, FEE_RATE_DENOMINATOR_VALUE, left);
+    from_quotient(
+        quotient,
+        Refusal::ZERO_TRADING_TOKENS,
+        Refusal::MATH_OVERFLOW,
+    )
 }
 
 // Its contract: of an amount in two parts, the fees, rounded up, are together no less than the fee of the whole, and what is left of the parts is

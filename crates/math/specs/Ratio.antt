@@ -10,7 +10,7 @@ Quotient = Result ℕ NoQuotient
 
 -- the same with the remainder
 abbrev pub Parts : Type 0
-Parts = Result Divided NoQuotient
+Parts = Result (Divided ℕ) NoQuotient
 
 -- a number that fits a u64, or is past 2 ^ 64 - 1
 unfoldable pub fit : ℕ → Quotient

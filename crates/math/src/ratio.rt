@@ -15,7 +15,7 @@ pub enum NoQuotient {
 
 // a * b / d, rounded down, with the remainder.
 #[tactic(auto, unfolding(crate::specs::Ratio::parts_of))]
-fn mul_div(a: u64, b: u64, d: u64) -> Result<Divided, NoQuotient>
+fn mul_div(a: u64, b: u64, d: u64) -> Result<Divided<u64>, NoQuotient>
     ensures { result ≡ parts_of (a * b) d }
 {
     if d == 0 {

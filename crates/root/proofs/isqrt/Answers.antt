@@ -37,7 +37,7 @@ pos c = lt_of_le_of_lt zero-le c.loop-guess-test.true
 
 quotient_of : (c : After-div_rem-quotient)
     → c.div_rem-quotient.result.quotient ≡ value c.args.n / c.loop-guess.guess
-quotient_of c = ap (λ (p : Divided). p.quotient) c.div_rem-quotient.ensures
+quotient_of c = ap (λ (p : Divided ℕ). p.quotient) c.div_rem-quotient.ensures
 
 pub overflow_mul-guess : goal.overflow_mul-guess
 overflow_mul-guess c =
