@@ -9,10 +9,11 @@ use lib.ListN.{length, set, length-set}
 use lib.Seq.{get_or-set_same, get_or-set_other}
 use borrow.Author.Tests.{eqb-true, eqb-false}
 use borrow.Author.Rules.{read_above}
+use Rattle.std.specs.Prelude.{Result, Ok, Err}
 use Rattle.oracle.specs.declared.Ring.{Ring}
 use Rattle.oracle.specs.declared.Observation.{Observation}
 use Rattle.oracle.specs.declared.Update.{Update}
-use Rattle.oracle.specs.declared.Update.TheVariants.{Refused, Kept, Stored}
+use Rattle.oracle.specs.declared.Update.TheVariants.{Kept, Stored}
 use Rattle.oracle.specs.Ring.{Entries, ring_words, Entry, number_at, entry_at, with_entry, newest, outside, seen, still, mark_of, overwrites, next_index, head, accepted_update}
 use Rattle.oracle.specs.Update.{entry_of, stored_in, after_of}
 use Rattle.oracle.proofs.Inside.{inside_means, entry_inside, next_inside}
@@ -34,7 +35,7 @@ with_behind entries i e k h =
 
 stored_behind :
     (entries : Entries) (ring : Ring) (o : Observation) (k : ℕ) → 5 * ring.grid.length ≤ k
-    → number_at (stored_in entries (Stored ring o)) k ≡ number_at entries k
+    → number_at (stored_in entries (Ok (Stored ring o))) k ≡ number_at entries k
 stored_behind entries ring o k h = go (outside ring) refl
   where
     go : (b : Bool) → outside ring ≡ b → number_at (cond b entries (with_entry entries ring.index (entry_of o))) k ≡ number_at entries k
@@ -63,15 +64,15 @@ module _ (ring : Ring) (e : Entry) (clock price0 price1 : ℕ) where
       go true false true x y z = here y
       go true false false x y z = next z
 
-  pub grid_stays : (after_of ring accepted).ring.grid ≡ ring.grid
-  grid_stays = in_each (λ (u : Update). (after_of ring u).ring.grid ≡ ring.grid) (λ o. refl) refl (λ o. refl)
+  pub grid_stays : (after_of accepted).grid ≡ ring.grid
+  grid_stays = in_each (λ (u : Update). (after_of u).grid ≡ ring.grid) (λ o. refl) refl (λ o. refl)
 
-  pub stays_inside : outside ring ≡ false → outside (after_of ring accepted).ring ≡ false
-  stays_inside h = in_each (λ (u : Update). outside (after_of ring u).ring ≡ false) (λ o. h) h (λ o. next_inside ring clock h)
+  pub stays_inside : outside ring ≡ false → outside (after_of accepted) ≡ false
+  stays_inside h = in_each (λ (u : Update). outside (after_of u) ≡ false) (λ o. h) h (λ o. next_inside ring clock h)
 
-  pub unwritten : (entries : Entries) (k : ℕ) → 5 * ring.grid.length ≤ k → number_at (stored_in entries accepted) k ≡ number_at entries k
+  pub unwritten : (entries : Entries) (k : ℕ) → 5 * ring.grid.length ≤ k → number_at (stored_in entries (Ok accepted)) k ≡ number_at entries k
   unwritten entries k h =
-      in_each (λ (u : Update). number_at (stored_in entries u) k ≡ number_at entries k)
+      in_each (λ (u : Update). number_at (stored_in entries (Ok u)) k ≡ number_at entries k)
       (λ o. stored_behind entries (head ring.grid ring.index clock) o k h) refl
       (λ o. stored_behind entries (head ring.grid (next_index ring.grid ring.index) clock) o k h)
 
@@ -101,10 +102,10 @@ with_alike n a b i e h t =
     (set_alike n _ _ (5 * i + 1) _ (omega arith)
     (set_alike n a b (5 * i) _ (omega arith) t))))
 
-pub stored_alike : (n : ℕ) (a b : Entries) (u : Update) → Alike n a b → Alike n (stored_in a u) (stored_in b u)
-stored_alike n a b (Refused x) t = t
-stored_alike n a b (Kept x) t = t
-stored_alike n a b (Stored ring o) t = go (outside ring) refl
+pub stored_alike : (n : ℕ) (a b : Entries) (u : Result Update ℕ) → Alike n a b → Alike n (stored_in a u) (stored_in b u)
+stored_alike n a b (Err x) t = t
+stored_alike n a b (Ok (Kept x)) t = t
+stored_alike n a b (Ok (Stored ring o)) t = go (outside ring) refl
   where
     go : (c : Bool) → outside ring ≡ c → Alike n (cond c a (with_entry a ring.index (entry_of o))) (cond c b (with_entry b ring.index (entry_of o)))
     go true e = t

@@ -1,6 +1,6 @@
 -- Document 01, 'oracle.rs', with document 02 (f): the ring's entries, each a clock and two sums modulo 2^128, and what an update comes to. The head
 -- carries the ring's grid: its spacing in seconds, and its length, how many of the 100 lent entries are its own.
-use Rattle.std.specs.Prelude.{ℕ, ◌+◌, ◌*◌, ◌-◌, ◌/◌, ◌%◌, ◌^◌, Bool, true, cond, not, ◌&&◌, ◌||◌, List, [], ◌∷◌, ltb, leb, eqb, get_or, set}
+use Rattle.std.specs.Prelude.{Result, Ok, Err, ℕ, ◌+◌, ◌*◌, ◌-◌, ◌/◌, ◌%◌, ◌^◌, Bool, true, cond, not, ◌&&◌, ◌||◌, List, [], ◌∷◌, ltb, leb, eqb, get_or, set}
 use Rattle.refusal.specs.Refusal.{math_overflow, panicked}
 use Rattle.wide.specs.Value.{u128_of}
 use Rattle.refusal.specs.Tests.{Tests, outcome}
@@ -8,7 +8,7 @@ use Rattle.oracle.specs.declared.Grid.{Grid}
 use Rattle.oracle.specs.declared.Ring.{Ring}
 use Rattle.oracle.specs.declared.Observation.{Observation}
 use Rattle.oracle.specs.declared.Update.{Update}
-use Rattle.oracle.specs.declared.Update.TheVariants.{Refused, Kept, Stored}
+use Rattle.oracle.specs.declared.Update.TheVariants.{Kept, Stored}
 
 -- ---- the entries: five numbers each, the clock and the two halves of each sum
 abbrev pub Entries : Type 0
@@ -127,5 +127,5 @@ accepted_update ring e clock price0 price1 =
     (Stored (head ring.grid ring.index clock) (moved_on ring e clock price0 price1 e.clock))
     (Stored (head ring.grid (next_index ring.grid ring.index) clock) (moved_on ring e clock price0 price1 clock))))
 
-unfoldable pub observed : Ring → Entry → ℕ → ℕ → ℕ → Update
-observed ring e clock price0 price1 = outcome (ring_tests ring e clock price0 price1) Refused (accepted_update ring e clock price0 price1)
+unfoldable pub observed : Ring → Entry → ℕ → ℕ → ℕ → Result Update ℕ
+observed ring e clock price0 price1 = outcome (ring_tests ring e clock price0 price1) Err (Ok (accepted_update ring e clock price0 price1))

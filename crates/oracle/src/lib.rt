@@ -6,11 +6,11 @@ ghost use Rattle.std.specs.Prelude.{◌≡◌, cond, ◌<◌, eqb, length};
 ghost use Rattle.wide.specs.Value.{value};
 ghost use Rattle.oracle.specs.Ring.{observation_num, ring_words, price, entry_at, outside, seen as seenOf, with_entry, next_index, head, observed};
 ghost use Rattle.oracle.specs.Update.{answered, update as updateOf, stored_in, entry_of, after_of};
-ghost use Rattle.oracle.specs.Stages.{first_use, sum_after, moved_entry, moved_sums};
+ghost use Rattle.oracle.specs.Stages.{sum_after, moved_entry};
 
 use divide::price_x32;
-use refusal::{ACCEPTED, MATH_OVERFLOW, PANIC};
-use wide::{Product, U128, checked_mul, wrapping_add};
+use refusal::Refusal;
+use wide::{U128, checked_mul, wrapping_add};
 
 // So many entries are lent, whatever the ring's length.
 pub const OBSERVATION_NUM: u64 = 100;
@@ -42,22 +42,15 @@ pub struct Observation {
     pub sum1: U128,
 }
 
-// What an update comes to, before anything is written: a refusal's number; a head, with nothing to store; or a head and the entry to store at its index.
+// What an update comes to, before anything is written: a head, with nothing to store, or a head and the entry to store at its index.
 #[derive(Clone, Copy)]
 pub enum Update {
-    Refused(u64),
     Kept(Ring),
     Stored(Ring, Observation),
 }
 
-// The head after an update, or a refusal's number with the head as it was.
-#[derive(Clone, Copy)]
-pub struct RingAfter {
-    pub number: u64,
-    pub ring: Ring,
-}
-
 // Price 0 is net1 × 2^32 / net0 rounded down, price 1 its mirror. With a net of 0 it is 0, as a whole-number quotient by 0 is.
+#[tactic(auto, unfolding(crate::specs::Ring::price))]
 pub fn token_price_x32(net: u64, other: u64) -> U128
     ensures { value result ≡ price net other }
 {
@@ -67,154 +60,90 @@ pub fn token_price_x32(net: u64, other: u64) -> U128
     price_x32(other, net)
 }
 
-// The entry at an index, five numbers from 5 × index on.
-fn entry_at(entries: &[u64], index: u64) -> Observation
-    requires { (length entries.now ≡ ring_words) × (index < observation_num) }
-    ensures { entry_of result ≡ entry_at entries.now index }
-{
-    let at = (5 * index) as usize;
-    Observation {
-        clock: entries[at],
-        sum0: U128 {
-            high: entries[at + 1],
-            low: entries[at + 2],
-        },
-        sum1: U128 {
-            high: entries[at + 3],
-            low: entries[at + 4],
-        },
-    }
-}
-
-// A mark of 0 becomes the entry's clock.
-fn mark_or_clock(mark: u64, entry_clock: u64) -> u64
-    ensures { result ≡ cond (eqb mark 0) entry_clock mark }
-{
-    if mark == 0 { entry_clock } else { mark }
-}
-
-// The index after this one: length − 1 goes to 0.
-fn next_index(grid: Grid, index: u64) -> u64
-    requires { index < grid.length }
-    ensures { result ≡ next_index grid index }
-{
-    if index == grid.length - 1 {
-        0
-    } else {
-        index + 1
-    }
-}
-
-// An entry to store at an index, with the head that then stands.
-fn stored(grid: Grid, index: u64, mark: u64, entry: Observation) -> Update
-    ensures { result ≡ Update.Stored (head grid index mark) entry }
-{
-    let ring = Ring {
-        used: true,
-        index,
-        mark,
-        grid,
-    };
-    Update::Stored(ring, entry)
-}
-
-// First use writes clock and zero sums.
-fn first_use(grid: Grid, index: u64, clock: u64) -> Update
-    ensures { result ≡ first_use grid index clock }
-{
-    let zero = U128 { high: 0, low: 0 };
-    stored(
-        grid,
-        index,
-        clock,
-        Observation {
-            clock,
-            sum0: zero,
-            sum1: zero,
-        },
-    )
-}
-
-// One token's sum after some seconds at its price.
-fn add_price(sum: U128, net: u64, other: u64, seconds: u64) -> Product
+// One token's sum after some seconds at its price. Price × seconds past 2^128 − 1 is 8.
+#[tactic(auto, using(crate::proofs::Sums::sum_past, crate::proofs::Sums::sum_fits))]
+fn add_price(sum: U128, net: u64, other: u64, seconds: u64) -> Result<U128, Refusal>
     ensures { result ≡ sum_after (value sum) (price net other) seconds }
 {
-    match checked_mul(token_price_x32(net, other), seconds) {
-        Product::Fits(delta) => Product::Fits(wrapping_add(sum, delta)),
-        Product::Past => Product::Past,
+    let delta = checked_mul(token_price_x32(net, other), seconds).ok_or(Refusal::MATH_OVERFLOW)?;
+    Ok(wrapping_add(sum, delta))
+}
+
+impl Grid {
+    // The index after this one: length − 1 goes to 0.
+    fn next_index(self, index: u64) -> u64
+        requires { index < self.length }
+        ensures { result ≡ next_index self index }
+    {
+        if index == self.length - 1 {
+            0
+        } else {
+            index + 1
+        }
     }
 }
 
-// The sums as an entry: under `spacing` seconds since the newest one in its place and with its clock, else in the next place.
-fn moved_entry(
-    grid: Grid,
-    index: u64,
-    entry_clock: u64,
-    clock: u64,
-    sum0: U128,
-    sum1: U128,
-) -> Update
-    requires { (index < grid.length) × (entry_clock < clock) }
-    ensures { result ≡ moved_entry grid index entry_clock clock sum0 sum1 }
-{
-    if clock - entry_clock < grid.spacing {
-        let overwritten = Observation {
-            clock: entry_clock,
-            sum0,
-            sum1,
-        };
-        return stored(grid, index, clock, overwritten);
+impl Observation {
+    // What stands outside the ring, and at the first use before its clock.
+    const ZERO: Observation = Observation {
+        clock: 0,
+        sum0: U128 { high: 0, low: 0 },
+        sum1: U128 { high: 0, low: 0 },
+    };
+
+    // The entry at an index, five numbers from 5 × index on.
+    #[tactic(auto, unfolding(crate::specs::Ring::entry_at))]
+    fn read(entries: &[u64], index: u64) -> Observation
+        requires { (length entries.now ≡ ring_words) × (index < observation_num) }
+        ensures { entry_of result ≡ entry_at entries.now index }
+    {
+        let at = (5 * index) as usize;
+        Observation {
+            clock: entries[at],
+            sum0: U128 {
+                high: entries[at + 1],
+                low: entries[at + 2],
+            },
+            sum1: U128 {
+                high: entries[at + 3],
+                low: entries[at + 4],
+            },
+        }
     }
-    let next = next_index(grid, index);
-    stored(grid, next, clock, Observation { clock, sum0, sum1 })
+
+    // Written at an index.
+    #[tactic(auto, using(crate::proofs::Entries::with_halves))]
+    fn write(self, entries: &mut [u64], index: u64)
+        requires { (length entries.old ≡ ring_words) × (index < observation_num) }
+        ensures { entries.new ≡ with_entry entries.old index (entry_of self) }
+    {
+        let at = (5 * index) as usize;
+        entries[at] = self.clock;
+        entries[at + 1] = self.sum0.high;
+        entries[at + 2] = self.sum0.low;
+        entries[at + 3] = self.sum1.high;
+        entries[at + 4] = self.sum1.low;
+    }
 }
 
-// Both sums moved on. Price × seconds past 2^128 − 1 is 8.
-fn move_on(
-    grid: Grid,
-    index: u64,
-    newest: Observation,
-    clock: u64,
-    seconds: u64,
-    net0: u64,
-    net1: u64,
-) -> Update
-    requires { (index < grid.length) × (newest.clock < clock) }
-    ensures { result ≡ moved_sums grid index newest.clock clock (sum_after (value newest.sum0) (price net0 net1) seconds) (sum_after (value newest.sum1) (price net1 net0) seconds) }
-{
-    let Product::Fits(sum0) = add_price(newest.sum0, net0, net1, seconds) else {
-        return Update::Refused(MATH_OVERFLOW);
-    };
-    let Product::Fits(sum1) = add_price(newest.sum1, net1, net0, seconds) else {
-        return Update::Refused(MATH_OVERFLOW);
-    };
-    moved_entry(grid, index, newest.clock, clock, sum0, sum1)
+impl Update {
+    // The head that it leaves.
+    pub fn after(self) -> Ring
+        ensures { result ≡ after_of self }
+    {
+        match self {
+            Update::Kept(ring) | Update::Stored(ring, _) => ring,
+        }
+    }
 }
 
-// An entry written at an index.
-fn put_entry(entries: &mut [u64], index: u64, entry: Observation)
-    requires { (length entries.old ≡ ring_words) × (index < observation_num) }
-    ensures { entries.new ≡ with_entry entries.old index (entry_of entry) }
-{
-    let at = (5 * index) as usize;
-    entries[at] = entry.clock;
-    entries[at + 1] = entry.sum0.high;
-    entries[at + 2] = entry.sum0.low;
-    entries[at + 3] = entry.sum1.high;
-    entries[at + 4] = entry.sum1.low;
-}
-
-// What an update has decided is written: of its cases only `Stored` writes. A head outside the ring, which no update gives, writes nothing.
-pub fn store(entries: &mut [u64; RING_WORDS], update: Update)
+// What an update has decided is written: only `Stored` writes. A head outside the ring, which no update gives, writes nothing.
+pub fn store(entries: &mut [u64; RING_WORDS], update: Result<Update, Refusal>)
     ensures { entries.new ≡ stored_in entries.old update }
 {
-    match update {
-        Update::Refused(_) => {}
-        Update::Kept(_) => {}
-        Update::Stored(ring, entry) => {
-            if !ring.is_outside() {
-                put_entry(entries, ring.index, entry);
-            }
+    if let Ok(Update::Stored(ring, entry)) = update {
+        if !ring.is_outside() {
+            entry.write(entries, ring.index);
         }
     }
 }
@@ -232,72 +161,96 @@ impl Ring {
         ensures { entry_of result ≡ seenOf self entries.now }
     {
         if self.is_outside() {
-            let zero = U128 { high: 0, low: 0 };
-            return Observation {
-                clock: 0,
-                sum0: zero,
-                sum1: zero,
-            };
+            return Observation::ZERO;
         }
-        entry_at(entries, self.index)
+        Observation::read(entries, self.index)
     }
 
-    // What a clock and the nets before the swap come to. It decides, and writes nothing.
-    pub fn observe(self, newest: Observation, clock: u64, net0: u64, net1: u64) -> Update
+    // The head in use, at an index and a mark.
+    fn at(self, index: u64, mark: u64) -> Ring
+        ensures { result ≡ head self.grid index mark }
+    {
+        Ring {
+            used: true,
+            index,
+            mark,
+            grid: self.grid,
+        }
+    }
+
+    // Its mark; a mark of 0 becomes the newest entry's clock.
+    fn mark_or(self, entry_clock: u64) -> u64
+        ensures { result ≡ cond (eqb self.mark 0) entry_clock self.mark }
+    {
+        if self.mark == 0 {
+            entry_clock
+        } else {
+            self.mark
+        }
+    }
+
+    // The sums as an entry: under `spacing` seconds since the newest one in its place and with its clock, else in the next place.
+    fn move_on(self, newest: Observation, clock: u64, sum0: U128, sum1: U128) -> Update
+        requires { (self.index < self.grid.length) × (newest.clock < clock) }
+        ensures { result ≡ moved_entry self.grid self.index newest.clock clock sum0 sum1 }
+    {
+        if clock - newest.clock < self.grid.spacing {
+            let overwritten = Observation {
+                clock: newest.clock,
+                sum0,
+                sum1,
+            };
+            return Update::Stored(self.at(self.index, clock), overwritten);
+        }
+        let next = self.grid.next_index(self.index);
+        Update::Stored(self.at(next, clock), Observation { clock, sum0, sum1 })
+    }
+
+    // What a clock and the nets before the swap come to. It decides, and writes nothing. Outside the ring it is 11. First use stores clock and zero
+    // sums.
+    #[tactic(auto, unfolding(crate::specs::Ring::observed, crate::specs::Ring::accepted_update, crate::specs::Stages::sum_after, refusal::specs::Tests::outcome))]
+    pub fn observe(
+        self,
+        newest: Observation,
+        clock: u64,
+        net0: u64,
+        net1: u64,
+    ) -> Result<Update, Refusal>
         ensures { result ≡ observed self (entry_of newest) clock (price net0 net1) (price net1 net0) }
     {
-        let index = self.index;
-        let used = self.used;
-        let grid = self.grid;
-        let outside = self.is_outside();
-        if outside {
-            return Update::Refused(PANIC);
+        if self.is_outside() {
+            return Err(Refusal::PANIC);
         }
-        if !used {
-            return first_use(grid, index, clock);
+        if !self.used {
+            let first = Observation {
+                clock,
+                ..Observation::ZERO
+            };
+            return Ok(Update::Stored(self.at(self.index, clock), first));
         }
-        let mark = mark_or_clock(self.mark, newest.clock);
+        let mark = self.mark_or(newest.clock);
         if clock <= mark || clock <= newest.clock {
-            return Update::Kept(Ring {
-                used: true,
-                index,
-                mark,
-                grid,
-            });
+            return Ok(Update::Kept(self.at(self.index, mark)));
         }
-        move_on(grid, index, newest, clock, clock - mark, net0, net1)
-    }
-
-    // The head that an update leaves.
-    pub fn after(self, update: Update) -> RingAfter
-        ensures { result ≡ after_of self update }
-    {
-        match update {
-            Update::Refused(number) => RingAfter { number, ring: self },
-            Update::Kept(ring) => RingAfter {
-                number: ACCEPTED,
-                ring,
-            },
-            Update::Stored(ring, _) => RingAfter {
-                number: ACCEPTED,
-                ring,
-            },
-        }
+        let sum0 = add_price(newest.sum0, net0, net1, clock - mark)?;
+        let sum1 = add_price(newest.sum1, net1, net0, clock - mark)?;
+        Ok(self.move_on(newest, clock, sum0, sum1))
     }
 
     // The original's `ObservationState::update`: all is decided first, then stored.
+    #[tactic(auto, unfolding(crate::specs::Update::update))]
     pub fn update(
         self,
         entries: &mut [u64; RING_WORDS],
         clock: u64,
         net0: u64,
         net1: u64,
-    ) -> RingAfter
-        ensures { answered result.number result.ring entries.new ≡ updateOf self entries.old clock (price net0 net1) (price net1 net0) }
+    ) -> Result<Ring, Refusal>
+        ensures { answered self result entries.new ≡ updateOf self entries.old clock (price net0 net1) (price net1 net0) }
     {
         let newest = self.seen(entries);
         let update = self.observe(newest, clock, net0, net1);
         store(entries, update);
-        self.after(update)
+        Ok(update?.after())
     }
 }
