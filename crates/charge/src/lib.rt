@@ -93,8 +93,10 @@ fn sent_by_points(points: u64, post_fee_amount: u64) -> Result<u64, NoQuotient>
 }
 
 // The charge on the least amount that is sent so that another arrives; 14 where that amount is past u64, both by the points and with the
-// maximum. No quotient of more than 64 bits is needed to know it.
+// maximum. No quotient of more than 64 bits is needed to know it. It isn't inlined, so that a pool without charges makes one test and no call, and
+// lays nothing out in memory.
 #[tactic(auto, using(crate::proofs::Rest::scaled), unfolding(crate::specs::Charge::inverse_fee, crate::specs::Charge::least_sent, crate::specs::Charge::charge_for, crate::specs::Stages::sent_by_points, math::specs::Ratio::ceil_of, math::specs::Ratio::fit, refusal::specs::Tests::outcome))]
+#[inline(never)]
 pub fn get_transfer_inverse_fee(charge: Charge, post_fee_amount: u64) -> Answer
     ensures { result ≡ inverse_fee charge post_fee_amount }
 {
@@ -156,7 +158,8 @@ impl Charges {
     }
 
     // A transfer of each token; back, 14 where either can't be sent.
-    #[tactic(auto, using(crate::proofs::FarEnds::free_both))]
+    #[tactic(auto, using(crate::proofs::FarEnds::free_both, crate::proofs::FarEnds::first_refuses))]
+    #[inline(always)]
     pub fn transfer_both(self, forward: bool, amount0: u64, amount1: u64) -> Result<Ends, Refusal>
         ensures { result ≡ both_transferred forward self amount0 amount1 }
     {
@@ -167,15 +170,16 @@ impl Charges {
                 charged: Charged::default(),
             });
         }
-        transfer_each(
-            self.token0.points,
-            self.token0.maximum,
-            self.token1.points,
-            self.token1.maximum,
-            forward,
-            amount0,
-            amount1,
-        )
+        let end0 = transfer(forward, self.token0, amount0)?;
+        let end1 = transfer(forward, self.token1, amount1)?;
+        Ok(Ends {
+            amount0: end0.amount,
+            amount1: end1.amount,
+            charged: Charged {
+                charge0: end0.charge,
+                charge1: end1.charge,
+            },
+        })
     }
 
     // The charges alone on an amount of each token that is sent.
@@ -191,41 +195,6 @@ impl Charges {
             charge1: get_transfer_fee(self.token1, amount1),
         }
     }
-}
-
-// A transfer of each token by its charge. It isn't inlined, and takes plain numbers: a pool without charges makes one test and no call, and lays
-// nothing out in memory.
-#[inline(never)]
-#[tactic(auto, using(crate::proofs::FarEnds::first_refuses))]
-fn transfer_each(
-    points0: u64,
-    maximum0: u64,
-    points1: u64,
-    maximum1: u64,
-    forward: bool,
-    amount0: u64,
-    amount1: u64,
-) -> Result<Ends, Refusal>
-    ensures { result ≡ both_transferred forward (record { token0 = record { points = points0; maximum = maximum0 }; token1 = record { points = points1; maximum = maximum1 } }) amount0 amount1 }
-{
-    let charge0 = Charge {
-        points: points0,
-        maximum: maximum0,
-    };
-    let charge1 = Charge {
-        points: points1,
-        maximum: maximum1,
-    };
-    let end0 = transfer(forward, charge0, amount0)?;
-    let end1 = transfer(forward, charge1, amount1)?;
-    Ok(Ends {
-        amount0: end0.amount,
-        amount1: end1.amount,
-        charged: Charged {
-            charge0: end0.charge,
-            charge1: end1.charge,
-        },
-    })
 }
 
 // Its contract is that what is sent for an amount is the least whose rest it is, at any points and maximum (specs/Least.antt).

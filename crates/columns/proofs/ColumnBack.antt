@@ -9,18 +9,17 @@ use borrow.Author.Tests.{eqb-true, eqb-false, ltb-false, leb-true}
 use lib.Dec.{eqb, leb}
 use lib.ListN.{length, replicate}
 use Rattle.refusal.specs.Tests.{u64_max, past}
-use Rattle.columns.specs.declared.Reading.{Reading}
-use Rattle.columns.specs.declared.Reading.TheVariants.{Unreadable, Reads}
+use Rattle.std.specs.Prelude.{Option, Some, None}
 use Rattle.columns.specs.Column.{blank, digit_byte, read_digits, in_range, read_column, blanks_before, column}
 use Rattle.columns.proofs.ColumnRead.{blank_first, number_at, one_digit_more, all_read}
 
 -- ---- written, and read back
 -- digits that begin a number, and what follows them
-abbrev Read : ℕ → List ℕ → Reading
+abbrev Read : ℕ → List ℕ → Option ℕ
 Read n bytes = in_range (read_digits n bytes)
 
 -- what is read after the digits of n, or after blanks alone
-reading : ℕ → List ℕ → Reading
+reading : ℕ → List ℕ → Option ℕ
 reading n bytes = cond (eqb n 0) (read_column bytes) (Read n bytes)
 
 blanks_read : (k : ℕ) (bytes : List ℕ) → read_column (replicate k blank ++ bytes) ≡ read_column bytes
@@ -58,7 +57,7 @@ front_read (suc width) n bytes h = go (eqb n 0) refl (front_read width (n / 10) 
         ∙ rest
         ∙ digit_read n bytes (λ z. absurd (eqb-false n 0 e z))
 
-pub column_back : (width n : ℕ) → n < 10 ^ suc width → n ≤ u64_max → read_column (column (suc width) n) ≡ Reads n
+pub column_back : (width n : ℕ) → n < 10 ^ suc width → n ≤ u64_max → read_column (column (suc width) n) ≡ Some n
 unfolding column
 column_back width n h fits =
     front_read width (n / 10) (digit_byte (n % 10) ∷ []) (omega arith)
@@ -66,16 +65,16 @@ column_back width n h fits =
     ∙ all_read [] 0 n (omega arith) fits
 
 -- ---- what is read
-abbrev pub ReadFits : Reading → Type 0
-ReadFits Unreadable = Unit {0}
-ReadFits (Reads n) = n ≤ u64_max
+abbrev pub ReadFits : Option ℕ → Type 0
+ReadFits None = Unit {0}
+ReadFits (Some n) = n ≤ u64_max
 
-range_fits : (r : Reading) → ReadFits (in_range r)
+range_fits : (r : Option ℕ) → ReadFits (in_range r)
 unfolding in_range
-range_fits Unreadable = tt
-range_fits (Reads n) = go (past n) refl
+range_fits None = tt
+range_fits (Some n) = go (past n) refl
   where
-    go : (b : Bool) → past n ≡ b → ReadFits (cond b Unreadable (Reads n))
+    go : (b : Bool) → past n ≡ b → ReadFits (cond b None (Some n))
     go true e = tt
     go false e = ltb-false u64_max n e
 
@@ -84,14 +83,14 @@ unfolding read_column
 column_fits [] = tt
 column_fits (byte ∷ []) = go (leb 48 byte) (leb byte 57) refl
   where
-    go : (low high : Bool) → leb byte 57 ≡ high → ReadFits (cond (low && high) (Reads (byte - 48)) Unreadable)
+    go : (low high : Bool) → leb byte 57 ≡ high → ReadFits (cond (low && high) (Some (byte - 48)) None)
     go true true e = let h = leb-true byte 57 e in omega arith
     go true false e = tt
     go false high e = tt
 column_fits (byte ∷ next ∷ bytes) = go (eqb byte blank) (eqb byte (digit_byte 0)) _ _ (column_fits (next ∷ bytes)) (range_fits (read_digits 0 (byte ∷ next ∷ bytes)))
   where
     go :
-        (b z : Bool) (r q : Reading) → ReadFits r → ReadFits q → ReadFits (cond b r (cond z Unreadable q))
+        (b z : Bool) (r q : Option ℕ) → ReadFits r → ReadFits q → ReadFits (cond b r (cond z None q))
     go true z r q h k = h
     go false true r q h k = tt
     go false false r q h k = k

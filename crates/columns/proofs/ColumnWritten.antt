@@ -33,10 +33,10 @@ drop_set part at byte h =
 
 -- the last digit, which stands even of 0
 pub last_written :
-    (part : List ℕ) (at n : ℕ) → suc at ≡ length part → blanks_before at (n / 10) ++ drop at (set part at (digit_byte (n % 10))) ≡ column (length (set part at (digit_byte (n % 10)))) n
+    (part : List ℕ) (at byte n : ℕ) → at + 1 ≡ length part → byte ≡ digit_byte (n % 10) → blanks_before at (n / 10) ++ drop at (set part at byte) ≡ column (length part) n
 unfolding column
-last_written part at n h =
-    rw (drop_set part at (digit_byte (n % 10)) (omega arith), drop_of_length-le part {i = suc at} (omega arith), length-set part at (digit_byte (n % 10)), ← h)
+last_written part at byte n h e =
+    rw (e, drop_set part at (digit_byte (n % 10)) (omega arith), drop_of_length-le part {i = suc at} (omega arith), ← h, add-one at)
 
 pub none_written : (part : List ℕ) (n : ℕ) → length part ≡ 0 → part ≡ column (length part) n
 unfolding column
@@ -49,22 +49,28 @@ more_written part at rest h = rw (drop_set part at (digit_or_blank rest) h, one_
 
 -- two bytes more before it
 pub two_written :
-    (part : List ℕ) (at rest : ℕ) → 1 < at → at < length part
-    → blanks_before (at - 2) (rest / 100) ++ drop (at - 2) (set (set part (at - 1) (digit_or_blank rest)) (at - 2) (digit_or_blank (rest / 10))) ≡ blanks_before at rest ++ drop at part
-two_written part at rest h k =
+    (part : List ℕ) (at rest ones tens : ℕ) → 1 < at → at < length part → ones ≡ digit_or_blank rest → tens ≡ digit_or_blank (rest / 10)
+    → blanks_before (at - 2) (rest / 100) ++ drop (at - 2) (set (set part (at - 1) ones) (at - 2) tens) ≡ blanks_before at rest ++ drop at part
+two_written part at rest ones tens h k e f =
     let once = set part (at - 1) (digit_or_blank rest) in
     let hundredth : rest / 100 ≡ rest / 10 / 10 = omega arith in
     let first : suc (at - 1) ≡ at = omega arith in
     let second : suc (at - 2) ≡ at - 1 = omega arith in
-    rw hundredth
+    rw (e, f, hundredth)
     (more_written once (at - 2) (rest / 10) (simp length-set (omega arith))
     ∙ (ap (λ (i : ℕ). blanks_before i (rest / 10) ++ drop i once) second
     ∙ (more_written part (at - 1) rest (omega arith) ∙ ap (λ (i : ℕ). blanks_before i rest ++ drop i part) first)))
 
 -- the first byte, where one is left
-pub first_written : (part : List ℕ) (rest : ℕ) → 0 < length part → set part 0 (digit_or_blank rest) ≡ blanks_before 1 rest ++ drop 1 part
+pub first_written :
+    (part : List ℕ) (at rest byte : ℕ) → at < length part → at ≡ 1 → byte ≡ digit_or_blank rest → blanks_before at rest ++ drop at part ≡ set part 0 byte
 unfolding blanks_before
-first_written part rest h = more_written part 0 rest h
+first_written part at rest byte h one e = rw (one, e) (sym (more_written part 0 rest (omega arith)))
+
+-- or none is
+pub all_written : (part : List ℕ) (at rest : ℕ) → at ≡ 0 → blanks_before at rest ++ drop at part ≡ part
+unfolding blanks_before
+all_written part at rest none = rw none
 
 -- ---- lengths
 pub blanks_length : (width n : ℕ) → length (blanks_before width n) ≡ width
@@ -107,6 +113,10 @@ pub filled_place : (row : List ℕ) (start : ℕ × ℕ) (at : ℕ) → at + 20 
 unfolding placed
 filled_place row start at h = rw (le-leb (at + 20) (length row) h)
 
-pub no_part : (row : List ℕ) (start : ℕ × ℕ) (at n : ℕ) → has_room row at 20 ≡ false → ([] ≡ formatted row at n) × (start ≡ placed row start at)
-unfolding formatted placed
-no_part row start at n h = (rw h, rw h)
+pub no_part : (row : List ℕ) (at n : ℕ) → has_room row at 20 ≡ false → formatted row at n ≡ []
+unfolding formatted
+no_part row at n h = rw h
+
+pub no_place : (row : List ℕ) (start : ℕ × ℕ) (at : ℕ) → has_room row at 20 ≡ false → placed row start at ≡ start
+unfolding placed
+no_place row start at h = rw h

@@ -1,9 +1,7 @@
 -- Document 01, 'The day sheet': numbers in columns, 'decimal, right-justified, at least one digit, blanks before, no zero before a digit,
 -- at most 2^64 − 1'.
-use Rattle.std.specs.Prelude.{ℕ, zero, suc, ◌+◌, ◌*◌, ◌-◌, ◌/◌, ◌%◌, Bool, cond, ◌&&◌, List, [], ◌∷◌, ◌++◌, leb, eqb, length, replicate, take, drop}
+use Rattle.std.specs.Prelude.{Option, Some, None, ℕ, zero, suc, ◌+◌, ◌*◌, ◌-◌, ◌/◌, ◌%◌, Bool, cond, ◌&&◌, List, [], ◌∷◌, ◌++◌, leb, eqb, length, replicate, take, drop}
 use Rattle.refusal.specs.Tests.{past}
-use Rattle.columns.specs.declared.Reading.{Reading}
-use Rattle.columns.specs.declared.Reading.TheVariants.{Unreadable, Reads}
 
 abbrev pub blank : ℕ
 blank = 32
@@ -17,22 +15,22 @@ is_digit byte = leb 48 byte && leb byte 57
 
 -- ---- reading
 -- digits to the end, added to what stands before them
-unfoldable pub read_digits : ℕ → List ℕ → Reading
-read_digits value [] = Reads value
-read_digits value (byte ∷ bytes) = cond (is_digit byte) (read_digits (value * 10 + (byte - 48)) bytes) Unreadable
+unfoldable pub read_digits : ℕ → List ℕ → Option ℕ
+read_digits value [] = Some value
+read_digits value (byte ∷ bytes) = cond (is_digit byte) (read_digits (value * 10 + (byte - 48)) bytes) None
 
 -- at most 2^64 − 1
-unfoldable pub in_range : Reading → Reading
-in_range Unreadable = Unreadable
-in_range (Reads n) = cond (past n) Unreadable (Reads n)
+unfoldable pub in_range : Option ℕ → Option ℕ
+in_range None = None
+in_range (Some n) = cond (past n) None (Some n)
 
 -- blanks before; at least one digit; no zero before a digit
-unfoldable pub read_column : List ℕ → Reading
-read_column [] = Unreadable
-read_column (byte ∷ []) = cond (is_digit byte) (Reads (byte - 48)) Unreadable
+unfoldable pub read_column : List ℕ → Option ℕ
+read_column [] = None
+read_column (byte ∷ []) = cond (is_digit byte) (Some (byte - 48)) None
 read_column (byte ∷ next ∷ bytes) =
     cond (eqb byte blank) (read_column (next ∷ bytes))
-    (cond (eqb byte (digit_byte 0)) Unreadable (in_range (read_digits 0 (byte ∷ next ∷ bytes))))
+    (cond (eqb byte (digit_byte 0)) None (in_range (read_digits 0 (byte ∷ next ∷ bytes))))
 
 -- ---- writing
 -- the digits of a number that has at most so many, blanks before them

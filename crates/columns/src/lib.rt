@@ -1,90 +1,53 @@
 // Numbers in columns of the day sheet: decimal, right-justified, blanks before, at least one digit.
 #![tactic(auto)]
 
-ghost use Rattle.std.specs.Prelude.{◌≡◌, cond, ◌+◌, ◌*◌, ◌/◌, ◌%◌, ◌≤◌, ◌<◌, eqb, length, get_or, drop};
-ghost use Rattle.refusal.specs.Tests.{past};
+ghost use Rattle.std.specs.Prelude.{◌≡◌, cond, ◌/◌, ◌%◌, eqb, length, position, not, ◌==◌};
 ghost use Rattle.columns.specs.Column.{blank, digit_byte, read_digits, in_range, read_column, column, has_room, with_column, formatted, placed};
+ghost use Rattle.columns.specs.Stages.{with_digit};
 
-// 2^64 − 1 without its last digit.
-const MAX_TENTH: u64 = u64::MAX / 10;
-// The last digit of 2^64 − 1.
-const MAX_LAST: u64 = u64::MAX % 10;
-
-#[derive(Clone, Copy)]
-pub enum Reading {
-    Unreadable,
-    Reads(u64),
+// A number with one digit more: a byte that is a digit, at most 2^64 − 1.
+#[tactic(auto, unfolding(crate::specs::Stages::with_digit))]
+fn with_digit(value: u64, byte: u8) -> Option<u64>
+    ensures { result ≡ with_digit value byte }
+{
+    if !byte.is_ascii_digit() {
+        return None;
+    }
+    value.checked_mul(10)?.checked_add(u64::from(byte - b'0'))
 }
 
-// How many blanks stand before the number.
-fn blanks_before(bytes: &[u8]) -> usize
-    ensures { (read_column bytes.now ≡ read_column (drop result bytes.now)) × (result < length bytes.now → get_or bytes.now result 0 ≡ blank → ⊥) }
+// Digits to the end, at most 2^64 − 1.
+#[tactic(auto, using(crate::proofs::ColumnRead::digit_stops, crate::proofs::ColumnRead::digit_taken, crate::proofs::ColumnRead::all_read))]
+fn read_digits(bytes: &[u8]) -> Option<u64>
+    ensures { result ≡ in_range (read_digits 0 bytes.now) }
 {
-    let mut at = 0;
-    while at < bytes.len() {
-        if bytes[at] != b' ' {
-            return at;
-        }
-        at += 1;
+    let mut value = 0;
+    for &byte in bytes {
+        value = with_digit(value, byte)?;
     }
-    at
+    Some(value)
 }
 
-// Whether a number with one digit more is past 2^64 − 1. The first comparison nearly always decides.
-fn is_past(value: u64, digit: u64) -> bool
-    requires { digit ≤ 9 }
-    ensures { result ≡ past (value * 10 + digit) }
+// Where the number begins, past the blanks before it.
+fn number_start(bytes: &[u8]) -> Option<usize>
+    ensures { result ≡ position (λ byte. not (byte == blank)) bytes.now }
 {
-    if value < MAX_TENTH {
-        return false;
-    }
-    if value > MAX_TENTH {
-        return true;
-    }
-    digit > MAX_LAST
-}
-
-// Digits from a place to the end, at most 2^64 − 1.
-fn read_digits(bytes: &[u8], from: usize) -> Reading
-    ensures { result ≡ in_range (read_digits 0 (drop from bytes.now)) }
-{
-    let mut value: u64 = 0;
-    let mut at = from;
-    while at < bytes.len() {
-        let byte = bytes[at];
-        if byte < b'0' {
-            return Reading::Unreadable;
-        }
-        if b'9' < byte {
-            return Reading::Unreadable;
-        }
-        let digit = (byte - b'0') as u64;
-        if is_past(value, digit) {
-            return Reading::Unreadable;
-        }
-        value = value * 10 + digit;
-        at += 1;
-    }
-    Reading::Reads(value)
+    bytes.iter().position(|byte| *byte != b' ')
 }
 
 // The number of a column, whatever its bytes and however many: no zero before a digit, at most 2^64 − 1.
-#[tactic(auto, using(crate::proofs::ColumnRead::none_left, crate::proofs::ColumnRead::zero_at, crate::proofs::ColumnRead::number_at))]
-pub fn read_column(bytes: &[u8]) -> Reading
+#[tactic(auto, using(crate::proofs::ColumnRead::no_number, crate::proofs::ColumnRead::zero_before, crate::proofs::ColumnRead::number_from))]
+pub fn read_column(bytes: &[u8]) -> Option<u64>
     ensures { result ≡ read_column bytes.now }
 {
-    let at = blanks_before(bytes);
-    if at >= bytes.len() {
-        return Reading::Unreadable;
+    let at = number_start(bytes)?;
+    if bytes[at] == b'0' && at + 1 < bytes.len() {
+        return None;
     }
-    if bytes[at] == b'0' {
-        if at + 1 < bytes.len() {
-            return Reading::Unreadable;
-        }
-    }
-    read_digits(bytes, at)
+    read_digits(&bytes[at..])
 }
 
+// The last digit, which stands even of 0.
 fn last_digit(number: u64) -> u8
     ensures { result ≡ digit_byte (number % 10) }
 {
@@ -109,7 +72,9 @@ fn tens_or_blank(rest: u64) -> u8
 }
 
 // A column from its last digit to its first blank; a number with more digits than bytes loses the highest.
-// Two digits a step, so that half as many divisions wait for one another.
+// Two digits a step, so that half as many divisions wait for one another. A `while`: of what a loop over
+// `rchunks_exact_mut(2)` left in the part nothing is known.
+#[tactic(auto, using(crate::proofs::ColumnWritten::none_written))]
 fn write_digits(part: &mut [u8], value: u64)
     ensures { part.new ≡ column (length part.old) value }
 {
@@ -131,13 +96,11 @@ fn write_digits(part: &mut [u8], value: u64)
 }
 
 // Fills a column of a row; of a row too short for it nothing is written.
+#[tactic(auto, using(crate::proofs::ColumnWritten::too_short, crate::proofs::ColumnWritten::put_back))]
 pub fn write_column(row: &mut [u8], at: usize, width: usize, value: u64) -> bool
     ensures { (result ≡ has_room row.old at width) × (row.new ≡ with_column row.old at width value) }
 {
-    if row.len() < width {
-        return false;
-    }
-    if row.len() - width < at {
+    if row.len() < width || row.len() - width < at {
         return false;
     }
     write_digits(&mut row[at..at + width], value);
@@ -145,6 +108,7 @@ pub fn write_column(row: &mut [u8], at: usize, width: usize, value: u64) -> bool
 }
 
 // Fills a column of 20 bytes and hands back that very part of the caller's row; of a row too short for it, an empty part.
+#[tactic(auto, using(crate::proofs::ColumnWritten::filled_part, crate::proofs::ColumnWritten::filled_place, crate::proofs::ColumnWritten::no_part, crate::proofs::ColumnWritten::no_place))]
 pub fn format_column(row: &mut [u8], at: usize, value: u64) -> &mut [u8]
     ensures { (result.now ≡ formatted row.old at value) × (result.ref_ptr ≡ placed row.old row.entry.ref_ptr at) }
 {

@@ -1,12 +1,10 @@
 -- The arithmetic's answers as one number each: 0 where there is no quotient of 64 bits.
-use Rattle.std.specs.Prelude.{ℕ, ◌*◌, ◌/◌, ◌%◌, ◌^◌, cond, eqb}
-use Rattle.math.specs.declared.ratio.Quotient.{Quotient}
-use Rattle.math.specs.declared.ratio.Quotient.TheVariants.{Fits, Past, NoDivisor}
+use Rattle.std.specs.Prelude.{Ok, Err, ℕ, ◌*◌, ◌/◌, ◌%◌, ◌^◌, cond, eqb}
+use Rattle.math.specs.Ratio.{Quotient}
 
 unfoldable pub or_zero : Quotient → ℕ
-or_zero (Fits n) = n
-or_zero Past = 0
-or_zero NoDivisor = 0
+or_zero (Ok n) = n
+or_zero (Err e) = 0
 
 -- a price's low half; 0 where there is none
 unfoldable pub price_low : ℕ → ℕ → ℕ

@@ -7,18 +7,15 @@ ghost use Rattle.root.specs.Root.{root};
 ghost use Rattle.leaves.specs.Leaves.{or_zero, price_low};
 
 use divide::price_x32;
-use math::ratio::{Quotient, mul_div_ceil, mul_div_floor, mul_div_sum};
+use math::ratio::{NoQuotient, mul_div_ceil, mul_div_floor, mul_div_sum};
 use root::isqrt;
 use wide::{U128, widening_mul, wrapping_add};
 
-fn or_zero(quotient: Quotient) -> u64
+#[tactic(auto, unfolding(crate::specs::Leaves::or_zero))]
+fn or_zero(quotient: Result<u64, NoQuotient>) -> u64
     ensures { result ≡ or_zero quotient }
 {
-    match quotient {
-        Quotient::Fits(n) => n,
-        Quotient::Past => 0,
-        Quotient::NoDivisor => 0,
-    }
+    quotient.unwrap_or(0)
 }
 
 // The high half of a product.
@@ -26,8 +23,7 @@ fn or_zero(quotient: Quotient) -> u64
 pub extern "C" fn leaf_mul_high(a: u64, b: u64) -> u64
     ensures { result ≡ a * b / 2 ^ 64 }
 {
-    let product = widening_mul(a, b);
-    product.high
+    widening_mul(a, b).high
 }
 
 // a * b / d, rounded down.
@@ -56,14 +52,14 @@ pub extern "C" fn leaf_mul_div_sum(a: u64, b: u64, x: u64, y: u64) -> u64
 
 // The low half of a price.
 #[unsafe(no_mangle)]
+#[tactic(auto, unfolding(crate::specs::Leaves::price_low))]
 pub extern "C" fn leaf_price_low(a: u64, b: u64) -> u64
     ensures { result ≡ price_low a b }
 {
     if b == 0 {
         return 0;
     }
-    let price = price_x32(a, b);
-    price.low
+    price_x32(a, b).low
 }
 
 // The high half of a sum modulo 2^128.

@@ -1,6 +1,6 @@
 -- From the last entry back: the entries behind a place are numbered, and linked by their marks.
 -- Assumes nothing.
-use Rattle.std.proofs.Common.{◌≡◌, ℕ, ◌+◌, ◌-◌, ◌<◌, ◌≤◌, Bool, true, false, not, eqb, List, length, get_or, drop, set, replicate, sym, refl, ap, ◌∙◌, subst, arith, length-set, drop_of_length-le, get_or-set_other, get_or-set_same, eqb-true}
+use Rattle.std.proofs.Common.{◌≡◌, ℕ, ◌+◌, ◌-◌, ◌<◌, ◌≤◌, Bool, true, false, eqb, List, length, get_or, drop, set, replicate, sym, refl, ap, ◌∙◌, subst, arith, length-set, drop_of_length-le, get_or-set_other, get_or-set_same, eqb-true}
 use lib.ListN.{length-replicate, get_or-replicate}
 use borrow.Author.Tests.{eqb-false}
 use Rattle.register.specs.declared.Holder.{Holder}
@@ -34,13 +34,6 @@ end_behind salt es i few e =
       places = length-replicate 256 i;
     }
 
--- an entry with a balance and the number 0, before numbered ones: the list is not numbered
-pub zero_here :
-    (es : List Holder) (i : ℕ) → 0 < i → i ≤ length es → ((get_or es (i - 1) zero_holder).balance ≡ 0 → ⊥)
-    → (get_or es (i - 1) zero_holder).number ≡ 0 → numbered (drop i es) ≡ true → numbered (drop i es) ≡ not (numbered es)
-zero_here es i above inside f z n =
-    n ∙ ap not (sym (not_behind es (i - 1) (zero_stops es (i - 1) (omega (arith, inside, above)) f z)))
-
 module _ (salt : ℕ) (es : List Holder) (nearest links : List ℕ) (i : ℕ) (h : Behind salt es nearest links i) where
   pub all_behind : i ≡ 0 → true ≡ numbered es
   all_behind z = sym (subst (λ (j : ℕ). numbered (drop j es) ≡ true) z h.numbers)
@@ -56,6 +49,9 @@ module _ (salt : ℕ) (es : List Holder) (nearest links : List ℕ) (i : ℕ) (h
         (e.balance ≡ 0 → ⊥) → (e.number ≡ 0 → ⊥) → some (is_of (get_or es (i - 1) zero_holder).number) (drop (i - 1 + 1) es) ≡ true
         → false ≡ numbered es
     twice_refused f z s = sym (not_behind es (i - 1) (twice_stops es (i - 1) place (rw at at f) (rw at at z) s))
+
+    pub zero_refused : (e.balance ≡ 0 → ⊥) → e.number ≡ 0 → false ≡ numbered es
+    zero_refused f z = sym (not_behind es (i - 1) (zero_stops es (i - 1) place (rw at at f) (rw at at z)))
 
     -- a mark that the entry does not have has the same nearest entry
     same_near : (m : ℕ) → has_mark salt m (get_or es (i - 1) zero_holder) ≡ false → next_of salt m es i ≡ next_of salt m es (i - 1)

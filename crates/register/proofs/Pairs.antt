@@ -1,10 +1,12 @@
 -- Plain numbers as entries: how many there are, an entry read and written as its two numbers.
 -- Assumes nothing.
 use Rattle.std.proofs.Common.{◌≡◌, ℕ, zero, suc, ◌+◌, ◌/◌, ◌%◌, ◌<◌, ◌≤◌, Bool, true, false, cond, eqb, List, [], ◌∷◌, length, get_or, set, replicate, sym, refl, ap, ◌∙◌, arith, eq-eqb, ne_eqb, eqb-true}
+use Rattle.std.specs.Simd.{first_chunks}
+use Rattle.std.proofs.lemmas.List.{length-map, get_or-map}
 use Rattle.register.specs.declared.Holder.{Holder}
 use Rattle.register.specs.Holders.{zero_holder}
 use Rattle.register.specs.Changes.{with_opener}
-use Rattle.register.specs.Numbers.{pairs_of, entries_of, numbers_of}
+use Rattle.register.specs.Numbers.{pairs_of, entries_of, numbers_of, holder_of, holders_of}
 
 low : (m : List ℕ) → length (pairs_of m) + length (pairs_of m) ≤ length m
 unfolding pairs_of
@@ -47,6 +49,24 @@ pub whole : (m : List ℕ) → 0 < length (entries_of m) → length m ≡ length
 whole m =
     by_count (λ es. 0 < length es → length m ≡ length es + length es) m (λ h l. omega (arith, low m, high m))
     (λ l. absurd (omega (arith, l)))
+
+-- ---- the numbers as arrays of two
+chunked : (k : ℕ) (m : List ℕ) → length m ≡ k + k → holders_of (first_chunks 2 k m) ≡ pairs_of m
+unfolding pairs_of
+chunked zero [] h = refl
+chunked zero (a ∷ m) h = absurd (omega (arith, h))
+chunked (suc k) [] h = absurd (omega (arith, h))
+chunked (suc k) (a ∷ []) h = absurd (omega (arith, h))
+chunked (suc k) (a ∷ b ∷ m) h = ap (λ (es : List Holder). record { number = a; balance = b } ∷ es) (chunked k m (omega (arith, h)))
+
+pub arrays_even : (m : List ℕ) → length m % 2 ≡ 0 → holders_of (first_chunks 2 (length m / 2) m) ≡ entries_of m
+arrays_even m h = chunked (length m / 2) m (omega (arith, h)) ∙ sym (even_pairs m h)
+
+pub holders_length : (ps : List (List ℕ)) → length (holders_of ps) ≡ length ps
+holders_length ps = length-map ps holder_of
+
+pub holder_at : (ps : List (List ℕ)) (i : ℕ) → i < length ps → holder_of (get_or ps i []) ≡ get_or (holders_of ps) i zero_holder
+holder_at ps i h = sym (get_or-map holder_of ps i [] zero_holder h)
 
 -- ---- an entry
 twice : (i : ℕ) → suc i + suc i ≡ suc (suc (i + i))

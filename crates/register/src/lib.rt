@@ -4,14 +4,13 @@
 
 mod marks;
 
-ghost use Rattle.std.specs.Prelude.{◌≡◌, ◌+◌, ◌≤◌, length, slice_index_or};
-ghost use Rattle.refusal.specs.Tests.{first};
-ghost use Rattle.register.specs.Holders.{zero_holder};
+ghost use Rattle.std.specs.Prelude.{◌≡◌};
+ghost use Rattle.refusal.specs.Tests.{tested};
 ghost use Rattle.register.specs.Changes.{register_tests};
-ghost use Rattle.register.specs.Numbers.{entries_of};
+ghost use Rattle.register.specs.Numbers.{entries_of, holders_of};
 
 use marks::numbered;
-use refusal::{ACCEPTED, INVALID_INPUT, first2};
+use refusal::{Refusal, refuse_if};
 
 // A register has at most so many entries.
 pub const MOST_HOLDERS: usize = 256;
@@ -24,52 +23,27 @@ pub struct Holder {
     pub balance: u64,
 }
 
-// How many entries the numbers are. An odd count of numbers is no list of entries.
-pub fn count_of(numbers: &[u64]) -> usize
-    ensures { (result ≡ length (entries_of numbers.now)) × (result + result ≤ length numbers.now) }
+// The entries that the numbers are, two numbers each. An odd count of numbers is no list of entries.
+pub fn entries(numbers: &[u64]) -> &[[u64; 2]]
+    ensures { holders_of result.now ≡ entries_of numbers.now }
 {
-    let n = numbers.len();
-    if n % 2 != 0 {
-        return 0;
-    }
-    n / 2
-}
-
-// The entry of a place; zeros where the list has none.
-pub fn entry_at(numbers: &[u64], at: usize) -> Holder
-    ensures { result ≡ slice_index_or (entries_of numbers.now) at zero_holder }
-{
-    if at >= count_of(numbers) {
-        return Holder {
-            number: 0,
-            balance: 0,
-        };
-    }
-    let first = at + at;
-    Holder {
-        number: numbers[first],
-        balance: numbers[first + 1],
-    }
+    let (entries, odd) = numbers.as_chunks();
+    if odd.is_empty() { entries } else { &[] }
 }
 
 // No or over 256 entries, a number 0 or twice among those with a balance, a holder 0: 3.
-pub fn register_number(numbers: &[u64], holder: u64) -> u64
-    ensures { result ≡ first (register_tests holder (entries_of numbers.now)) }
+#[tactic(auto, unfolding(crate::specs::Changes::register_tests, refusal::specs::Tests::tested))]
+pub fn check_register(numbers: &[u64], holder: u64) -> Result<(), Refusal>
+    ensures { result ≡ tested (register_tests holder (entries_of numbers.now)) }
 {
-    let count = count_of(numbers);
-    let size = first2(
-        count == 0,
-        INVALID_INPUT,
-        count > MOST_HOLDERS,
-        INVALID_INPUT,
-    );
-    if size != ACCEPTED {
-        return size;
-    }
-    first2(
-        !numbered(numbers),
-        INVALID_INPUT,
-        holder == 0,
-        INVALID_INPUT,
-    )
+    let entries = entries(numbers);
+    refuse_if(&[
+        (entries.is_empty(), Refusal::INVALID_INPUT),
+        (entries.len() > MOST_HOLDERS, Refusal::INVALID_INPUT),
+    ])?;
+    // Only the numbers of a list that is not too long are looked through.
+    refuse_if(&[
+        (!numbered(entries), Refusal::INVALID_INPUT),
+        (holder == 0, Refusal::INVALID_INPUT),
+    ])
 }

@@ -2,11 +2,10 @@
 // and a number is sought among those of its mark only.
 ghost use Rattle.std.specs.Prelude.{◌≡◌, ◌+◌, ◌<◌, ◌≤◌, true, length, drop, slice_index_or};
 ghost use Rattle.register.specs.Holders.{zero_holder, is_of, some, numbered as isNumbered};
-ghost use Rattle.register.specs.Numbers.{entries_of};
+ghost use Rattle.register.specs.Numbers.{holders_of};
 ghost use Rattle.register.specs.Marks.{folded_of, mark_of, Linked};
 
-use crate::{MOST_HOLDERS, count_of, entry_at};
-use std::num::wrapping_add_u64;
+use crate::MOST_HOLDERS;
 
 // A number has one of so many marks.
 const MARKS: usize = 1_024;
@@ -40,22 +39,18 @@ fn folded(n: u64) -> u64
 }
 
 // Made of the sum of all balances: numbers that share a mark do not go on sharing it when that has changed.
-fn salt_of(numbers: &[u64]) -> u64
+fn salt_of(entries: &[[u64; 2]]) -> u64
     ensures { result < 2147483648 }
 {
-    let count = count_of(numbers);
-    let mut sum: u64 = 0;
-    let mut i: usize = 0;
-    while i < count {
-        let entry = entry_at(numbers, i);
-        sum = wrapping_add_u64(sum, entry.balance);
-        i += 1;
-    }
+    let sum = entries
+        .iter()
+        .fold(0, |sum: u64, [_, balance]| sum.wrapping_add(*balance));
     folded(sum) * STIR % SALTS + 1
 }
 
 // The mark of a number: a constant, its lower half times the salt and its upper half times the salt's square, summed modulo the prime, multiplied
 // twice by its own lowest bits, and folded between. So numbers that have something in common share marks as others do, but for a few salts.
+#[tactic(auto, unfolding(crate::specs::Marks::mark_of))]
 fn mark_of(number: u64, salt: u64) -> usize
     requires { salt < 2147483648 }
     ensures { (result ≡ mark_of salt number) × (result < 1024) }
@@ -67,16 +62,15 @@ fn mark_of(number: u64, salt: u64) -> usize
 }
 
 // Whether the number of an entry with a balance stands again behind it: by the links, which lead from each to the next of the same mark.
-fn stands_behind(numbers: &[u64], links: &[u16; MOST_HOLDERS], at: usize) -> bool
-    requires { Linked links.now (entries_of numbers.now) at }
-    ensures { result ≡ some (is_of (slice_index_or (entries_of numbers.now) at zero_holder).number) (drop (at + 1) (entries_of numbers.now)) }
+fn stands_behind(entries: &[[u64; 2]], links: &[u16; MOST_HOLDERS], at: usize) -> bool
+    requires { Linked links.now (holders_of entries.now) at }
+    ensures { result ≡ some (is_of (slice_index_or (holders_of entries.now) at zero_holder).number) (drop (at + 1) (holders_of entries.now)) }
 {
-    let count = count_of(numbers);
-    let own = entry_at(numbers, at);
+    let [own, _] = entries[at];
     let mut i = links[at] as usize;
-    while i < count {
-        let entry = entry_at(numbers, i);
-        if entry.number == own.number {
+    while i < entries.len() {
+        let [number, _] = entries[i];
+        if number == own {
             return true;
         }
         i = links[i] as usize;
@@ -86,26 +80,24 @@ fn stands_behind(numbers: &[u64], links: &[u16; MOST_HOLDERS], at: usize) -> boo
 
 // No number 0 and no number twice among the entries with a balance: from the last entry back, each is linked to the next of its mark, and sought
 // among these.
-#[tactic(auto, using(crate::proofs::Back::zero_here))]
-fn apart(numbers: &[u64]) -> bool
-    requires { length (entries_of numbers.now) ≤ 256 }
-    ensures { result ≡ isNumbered (entries_of numbers.now) }
+fn apart(entries: &[[u64; 2]]) -> bool
+    requires { length entries.now ≤ 256 }
+    ensures { result ≡ isNumbered (holders_of entries.now) }
 {
-    let salt = salt_of(numbers);
-    let mut i = count_of(numbers);
-    let mut nearest = [i as u16; MARKS];
-    let mut links = [i as u16; MOST_HOLDERS];
-    while i > 0 {
-        i -= 1;
-        let entry = entry_at(numbers, i);
-        if entry.balance != 0 {
-            if entry.number == 0 {
+    let salt = salt_of(entries);
+    let none = entries.len() as u16;
+    let mut nearest = [none; MARKS];
+    let mut links = [none; MOST_HOLDERS];
+    for i in (0..entries.len()).rev() {
+        let [number, balance] = entries[i];
+        if balance != 0 {
+            if number == 0 {
                 return false;
             }
-            let mark = mark_of(entry.number, salt);
+            let mark = mark_of(number, salt);
             links[i] = nearest[mark];
             nearest[mark] = i as u16;
-            if stands_behind(numbers, &links, i) {
+            if stands_behind(entries, &links, i) {
                 return false;
             }
         }
@@ -115,31 +107,26 @@ fn apart(numbers: &[u64]) -> bool
 
 // Whether the numbers of the entries with a balance rise from entry to entry, from 1 on and below the last u64: then none stands twice. It is
 // asked from the last entry back.
-fn rising(numbers: &[u64]) -> bool
-    ensures { result ≡ true → isNumbered (entries_of numbers.now) ≡ true }
+fn rising(entries: &[[u64; 2]]) -> bool
+    ensures { result ≡ true → isNumbered (holders_of entries.now) ≡ true }
 {
     let mut next = u64::MAX;
-    let mut i = count_of(numbers);
-    while i > 0 {
-        i -= 1;
-        let entry = entry_at(numbers, i);
-        if entry.balance != 0 {
-            if entry.number >= next {
+    for i in (0..entries.len()).rev() {
+        let [number, balance] = entries[i];
+        if balance != 0 {
+            if number >= next {
                 return false;
             }
-            next = entry.number;
+            next = number;
         }
     }
     next != 0
 }
 
 // No number 0 and no number twice among the entries with a balance. Numbers that rise are seen at once.
-pub(crate) fn numbered(numbers: &[u64]) -> bool
-    requires { length (entries_of numbers.now) ≤ 256 }
-    ensures { result ≡ isNumbered (entries_of numbers.now) }
+pub(crate) fn numbered(entries: &[[u64; 2]]) -> bool
+    requires { length entries.now ≤ 256 }
+    ensures { result ≡ isNumbered (holders_of entries.now) }
 {
-    if rising(numbers) {
-        return true;
-    }
-    apart(numbers)
+    rising(entries) || apart(entries)
 }

@@ -2,7 +2,6 @@
 use crate::row::{ROW_NUMBERS, nth};
 use columns::format_column;
 use std::io;
-use std::num::wrapping_add_u64;
 
 // What a row has for a side where its answer is altered.
 const ALTERED: u64 = 3;
@@ -31,10 +30,6 @@ pub(crate) fn heading(out: &impl Print) -> io::Result<()> {
         out,
         b"                kind                rows             altered               agree\n",
     )
-}
-
-fn one_if(flag: bool) -> u64 {
-    if flag { 1 } else { 0 }
 }
 
 impl Count {
@@ -73,12 +68,12 @@ impl Count {
         agrees: bool,
     ) -> io::Result<Count> {
         let count = self.of_kind(out, nth(row, 0))?;
-        let altered = one_if(nth(row, 1) == ALTERED);
+        let altered = nth(row, 1) == ALTERED;
         Ok(Count {
             kind: count.kind,
-            rows: wrapping_add_u64(count.rows, 1),
-            altered: wrapping_add_u64(count.altered, altered),
-            agree: wrapping_add_u64(count.agree, one_if(agrees)),
+            rows: count.rows.wrapping_add(1),
+            altered: count.altered.wrapping_add(u64::from(altered)),
+            agree: count.agree.wrapping_add(u64::from(agrees)),
         })
     }
 }

@@ -38,54 +38,41 @@ fn agrees(row: &[u64; ROW_NUMBERS]) -> bool {
     }
 }
 
-// How far the input is read, and whether there is more.
+// How far the input is read.
 #[derive(Clone, Copy)]
 pub struct Progress {
     pub reading: Reading,
     pub count: Count,
-    pub more: bool,
 }
 
 // The bytes of a block in turn; a newline ends a row.
 fn block(out: &impl Print, progress: Progress, bytes: &[u8]) -> io::Result<Progress> {
     let mut reading = progress.reading;
     let mut count = progress.count;
-    let mut i = 0;
-    while i < bytes.len() {
-        let byte = bytes[i];
+    for &byte in bytes {
         reading = reading.feed(byte);
         if byte == b'\n' {
             let row = reading.row;
             count = count.with_row(out, &row, agrees(&row))?;
             reading = Reading::new();
         }
-        i += 1;
     }
-    Ok(Progress {
-        reading,
-        count,
-        more: bytes.len() > 0,
-    })
+    Ok(Progress { reading, count })
 }
 
-// One block of the input.
-fn step(input: &mut impl Read, out: &impl Print, progress: Progress) -> io::Result<Progress> {
-    let mut buffer = [0u8; BLOCK_BYTES];
-    let n = input.read(&mut buffer)?;
-    block(out, progress, &buffer[..n])
-}
-
-// Standard input to its end. The turns only bound the loop.
+// Standard input to its end, which is a block of no bytes. The turns only bound the loop.
 fn read_all(input: &mut impl Read, out: &impl Print) -> io::Result<Count> {
     let mut progress = Progress {
         reading: Reading::new(),
         count: Count::new(0),
-        more: true,
     };
-    let mut turns = u64::MAX;
-    while turns > 0 && progress.more {
-        progress = step(input, out, progress)?;
-        turns -= 1;
+    let mut buffer = [0u8; BLOCK_BYTES];
+    for _ in 0..u64::MAX {
+        let n = input.read(&mut buffer)?;
+        if n == 0 {
+            break;
+        }
+        progress = block(out, progress, &buffer[..n])?;
     }
     Ok(progress.count)
 }

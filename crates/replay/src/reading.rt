@@ -9,22 +9,11 @@ pub struct Reading {
 }
 
 // The number with one digit more; one past u64, which no row has, becomes 0.
-fn shifted(value: u64, digit: u64) -> u64 {
-    if value < 1844674407370955161 {
-        if digit < 10 {
-            return value * 10 + digit;
-        }
-    }
-    if value == 1844674407370955161 {
-        if digit < 6 {
-            return 18446744073709551610 + digit;
-        }
-    }
-    0
-}
-
-fn wide(byte: u8) -> u64 {
-    byte as u64
+fn shifted(value: u64, digit: u8) -> u64 {
+    value
+        .checked_mul(10)
+        .and_then(|tens| tens.checked_add(u64::from(digit)))
+        .unwrap_or(0)
 }
 
 impl Reading {
@@ -39,11 +28,9 @@ impl Reading {
     // A digit goes to the number; anything else ends it.
     pub(crate) fn feed(self, byte: u8) -> Reading {
         let mut out = self;
-        if byte >= b'0' {
-            if byte <= b'9' {
-                out.value = shifted(self.value, wide(byte - b'0'));
-                return out;
-            }
+        if byte.is_ascii_digit() {
+            out.value = shifted(self.value, byte - b'0');
+            return out;
         }
         let at = self.count;
         if at < ROW_NUMBERS {

@@ -2,14 +2,14 @@
 ghost use Rattle.std.specs.Prelude.{◌<◌, ◌≤◌};
 
 use crate::row::{ROW_NUMBERS, nth};
-use oracle::{Grid, RING_WORDS, Ring, RingAfter};
+use oracle::{Grid, RING_WORDS, Ring};
 use words::stand_at;
 
 // Entries with 10,000 + w at each place w.
 pub(crate) fn filled() -> [u64; RING_WORDS] {
-    let mut out = [0u64; RING_WORDS];
-    for w in 0..RING_WORDS {
-        out[w] = 10000 + w as u64;
+    let mut out = [0; RING_WORDS];
+    for (w, number) in out.iter_mut().enumerate() {
+        *number = 10000 + w as u64;
     }
     out
 }
@@ -32,11 +32,7 @@ fn with_entry(
     let index = nth(row, index_at);
     if index < 100 {
         let first = index as usize * 5;
-        out[first] = nth(row, at);
-        out[first + 1] = nth(row, at + 1);
-        out[first + 2] = nth(row, at + 2);
-        out[first + 3] = nth(row, at + 3);
-        out[first + 4] = nth(row, at + 4);
+        out[first..first + 5].copy_from_slice(&row[at..at + 5]);
     }
     out
 }
@@ -61,14 +57,12 @@ pub(crate) fn ring_agrees(
     same_ring(entries, with_entry(before, row, index_at, at))
 }
 
-// What `Ring::update` gives: number, used, index, mark, spacing, length.
-fn head_agrees(after: RingAfter, row: &[u64; ROW_NUMBERS]) -> bool {
-    let ring = after.ring;
-    let used = if ring.used { 1 } else { 0 };
+// What `Ring::update` gives: number, used, index, mark, spacing, length. Where it refuses, the head is as it was.
+fn head_agrees(number: u64, ring: Ring, row: &[u64; ROW_NUMBERS]) -> bool {
     let grid = ring.grid;
     let found = [
-        after.number,
-        used,
+        number,
+        u64::from(ring.used),
         ring.index,
         ring.mark,
         grid.spacing,
@@ -90,6 +84,9 @@ pub(crate) fn update(row: &[u64; ROW_NUMBERS]) -> bool {
     };
     let before = ring_at(row, 3, 7);
     let mut entries = before;
-    let after = ring.update(&mut entries, nth(row, 12), nth(row, 13), nth(row, 14));
-    head_agrees(after, row) & ring_agrees(&entries, before, row, 17, 21)
+    let agrees = match ring.update(&mut entries, nth(row, 12), nth(row, 13), nth(row, 14)) {
+        Ok(next) => head_agrees(0, next, row),
+        Err(refusal) => head_agrees(refusal.number(), ring, row),
+    };
+    agrees & ring_agrees(&entries, before, row, 17, 21)
 }

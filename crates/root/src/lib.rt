@@ -8,7 +8,8 @@ ghost use Rattle.wide.specs.Value.{value};
 use divide::div_rem;
 use wide::U128;
 
-// The first guess is a power of two.
+// The first guess is a power of two. The loop has no index, and each guess comes of the one before, so it stays a `while`; the library's `isqrt`
+// halves an interval 32 times, and is slower.
 fn isqrt_u64(x: u64) -> u64
     ensures { result ≡ root x }
 {
@@ -24,7 +25,8 @@ fn isqrt_u64(x: u64) -> u64
     guess
 }
 
-// The first guess is the root of the high half, raised. A guess at or below the high half is the root: its quotient has more than 64 bits.
+// The first guess is the root of the high half, raised; the loop is a `while` as above. A guess at or below the high half is the root: its
+// quotient has more than 64 bits.
 pub fn isqrt(n: U128) -> u64
     ensures { result ≡ root (value n) }
 {

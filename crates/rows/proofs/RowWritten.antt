@@ -1,11 +1,13 @@
 -- A row, written column after column.
-use Prim.Native.Nat.{ℕ, suc, ◌+◌, ◌≤◌, ◌<◌}
+use Prim.Native.Nat.{ℕ, suc, ◌+◌, ◌-◌, ◌≤◌, ◌<◌}
 use mathlib.Core.Path.{◌≡◌, refl, sym, ap, ◌∙◌}
 use mathlib.Core.Bool.{true, false}
 use mathlib.Core.List.{List, [], ◌∷◌, ◌++◌, append_assoc}
 use native.Mathlib.Omega.{arith}
+use native.Mathlib.Nat.{add-sub_cancel_left}
 use borrow.Author.Tests.{le-leb, lt-leb}
-use lib.ListN.{length, get_or, set, take, drop, length-append, length-drop, drop_of_length-le}
+use borrow.Rule.Slice.PartMut.{put_mid}
+use lib.ListN.{length, get_or, set, drop, length-append, length-drop, drop_of_length-le}
 use lib.Seq.{drop-cons, drop-drop, drop-append-add, take_at, set_at}
 use Rattle.columns.specs.Column.{column, has_room, with_column}
 use Rattle.rows.specs.Row.{newline, write_row, with_row}
@@ -66,11 +68,13 @@ pub no_room : (text : List ℕ) (at : ℕ) (row : List ℕ) → length text < at
 unfolding with_row
 no_room text at row h = let e = lt-leb (at + 103) (length text) h in (sym e, rw e)
 
+pub has_place : (text : List ℕ) (at : ℕ) → at + 103 ≤ length text → has_room text at 103 ≡ true
+has_place text at h = le-leb (at + 103) (length text) h
+
 pub row_put_back :
-    (text : List ℕ) (at : ℕ) (row : List ℕ) → at + 103 ≤ length text
-    → (true ≡ has_room text at 103) × (take at text ++ (row ++ drop 103 (drop at text)) ≡ with_row text at row)
+    (text : List ℕ) (at : ℕ) (row wrote : List ℕ) → at + 103 ≤ length text → wrote ≡ row → put_mid at (at + 103 - at) text wrote ≡ with_row text at row
 unfolding with_row
-row_put_back text at row h = let e = le-leb (at + 103) (length text) h in (sym e, rw (e, drop-drop 103 at text))
+row_put_back text at row wrote h e = rw (le-leb (at + 103) (length text) h, e, add-sub_cancel_left at 103, drop-drop 103 at text)
 
 pub row_length : (number a b c d e : ℕ) → length (write_row number a b c d e) ≡ 103
 unfolding write_row

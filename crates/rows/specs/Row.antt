@@ -1,9 +1,6 @@
 -- Document 01, 'The day sheet': rows of 102 bytes, a kind in 2 columns and five numbers in 20 each.
-use Rattle.std.specs.Prelude.{ℕ, ◌+◌, ◌*◌, cond, not, List, [], ◌∷◌, ◌++◌, eqb, length, take, drop}
-use Rattle.columns.specs.declared.Reading.{Reading}
-use Rattle.columns.specs.declared.Reading.TheVariants as C
+use Rattle.std.specs.Prelude.{Option, Some, None, ℕ, ◌+◌, ◌*◌, cond, not, List, [], ◌∷◌, ◌++◌, eqb, length, take, drop}
 use Rattle.rows.specs.declared.row.Row.{Row}
-use Rattle.rows.specs.declared.row.Row.TheVariants as R
 use Rattle.columns.specs.Column.{read_column, column, has_room}
 
 abbrev pub newline : ℕ
@@ -17,26 +14,29 @@ abbrev pub row_bytes : ℕ
 row_bytes = 103
 
 -- ---- a row that is read
+abbrev pub numbers : ℕ → ℕ → ℕ → ℕ → ℕ → ℕ → Row
+numbers kind a b c d e = record { kind = kind; a = a; b = b; c = c; d = d; e = e }
+
 -- a reading, and what is made of its number
-abbrev pub with : Reading → (ℕ → Row) → Row
-with C.Unreadable k = R.Unreadable
-with (C.Reads n) k = k n
+abbrev pub with : Option ℕ → (ℕ → Option Row) → Option Row
+with None k = None
+with (Some n) k = k n
 
 -- the number in column i of the five
-abbrev pub column_at : List ℕ → ℕ → Reading
+abbrev pub column_at : List ℕ → ℕ → Option ℕ
 column_at bytes i = read_column (take 20 (drop (2 + 20 * i) bytes))
 
 -- any other length or column is unreadable
-unfoldable pub read_row : List ℕ → Row
+unfoldable pub read_row : List ℕ → Option Row
 read_row bytes =
-    cond (not (eqb (length bytes) line_bytes)) R.Unreadable
+    cond (not (eqb (length bytes) line_bytes)) None
     (with (read_column (take 2 bytes)) λ kind.
     with (column_at bytes 0) λ a.
     with (column_at bytes 1) λ b.
     with (column_at bytes 2) λ c.
     with (column_at bytes 3) λ d.
     with (column_at bytes 4) λ e.
-    R.Row kind a b c d e)
+    Some (numbers kind a b c d e))
 
 -- ---- a row that is written: a number of the same widths each, and a newline
 unfoldable pub write_row : ℕ → ℕ → ℕ → ℕ → ℕ → ℕ → List ℕ

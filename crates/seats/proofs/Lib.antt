@@ -1,2 +1,2 @@
-pub mod Sought
 pub mod Seats
+pub mod Changes

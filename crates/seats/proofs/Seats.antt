@@ -1,63 +1,66 @@
--- A holder's seat, by what was found in the list.
+-- A holder's seat, by the places that were found in the list.
 -- Assumes nothing.
-use Prim.Native.Nat.{ℕ, ◌<◌, ◌≤◌}
-use mathlib.Core.Path.{◌≡◌, refl, sym, ap, ◌∙◌}
-use mathlib.Core.Bool.{Bool, true, false, not}
-use mathlib.Core.List.{List}
-use lib.Dec.{ltb, leb}
-use lib.ListN.{length, get_or}
-use borrow.Author.Tests.{ltb-true, ltb-false, le-leb, lt-leb}
-use Rattle.refusal.specs.Tests.{first}
-use Rattle.refusal.proofs.Stops.{outcome_go}
+use Rattle.std.proofs.Common.{◌≡◌, ℕ, ◌<◌, Bool, true, false, cond, not, ◌&&◌, eqb, List, [], length, get_or, Some, None, sym, refl, ap, ◌∙◌, arith}
+use Rattle.std.specs.List.{position, position_or_len}
+use Rattle.std.proofs.lemmas.List.Recursion.{is_position_or_len}
 use Rattle.register.specs.declared.Holder.{Holder}
-use Rattle.seats.specs.declared.Seating.TheVariants.{Refused, At}
 use Rattle.register.specs.Holders.{zero_holder, is_of, is_free, some, first_of, balance_of}
-use Rattle.register.specs.Changes.{register_tests, is_full, place_of}
-use Rattle.seats.specs.Stages.{seat_in, seat_of}
-use Rattle.register.proofs.Search.{some_is, some_in, some_out, balance_at_lem, no_balance}
+use Rattle.register.specs.Changes.{place_of}
+use Rattle.register.specs.Numbers.{holder_of, holders_of}
+use Rattle.register.proofs.Search.{some_is, in_some, balance_at_lem, no_balance}
+use Rattle.register.proofs.Pairs.{holders_length, holder_at}
+use Rattle.seats.specs.Stages.{pair_of, free_pair, seat_in}
 
-at_least : (n m : ℕ) → leb m n ≡ not (ltb n m)
-at_least n m = go (ltb n m) refl
+-- of the pairs the first that passes, as of the entries
+module _ (q : List ℕ → Bool) (p : Holder → Bool) (same : (e : List ℕ) → p (holder_of e) ≡ q e) (ps : List (List ℕ)) where
+  first_pair : first_of p (holders_of ps) ≡ position_or_len q ps
+  unfolding first_of
+  first_pair = is_position_or_len (λ es. first_of p (holders_of es)) q refl (λ e es. rw (same e) (ap (λ (n : ℕ). cond (q e) 0 n) (omega arith))) ps
+
+  found_pair : cond (some p (holders_of ps)) (Some (first_of p (holders_of ps))) None ≡ position q ps
+  found_pair = rw (some_is p (holders_of ps), holders_length ps, first_pair) refl
+
+own_pair : (k : ℕ) (e : List ℕ) → is_of k (holder_of e) ≡ pair_of k e
+own_pair k e = go (eqb (get_or e 1 0) 0) (eqb (get_or e 0 0) k)
   where
-    go : (b : Bool) → ltb n m ≡ b → leb m n ≡ not (ltb n m)
-    go true e = lt-leb m n (ltb-true n m e) ∙ ap not (sym e)
-    go false e = le-leb m n (ltb-false n m e) ∙ ap not (sym e)
+    go : (a b : Bool) → not a && b ≡ b && not a
+    go true true = refl
+    go true false = refl
+    go false true = refl
+    go false false = refl
 
-module _ (k : ℕ) (es : List Holder) (n : ℕ) (tested : n ≡ first (register_tests k es)) (passed : n ≡ 0) where
-  seated : At (seat_in k es) ≡ seat_of k es
-  unfolding seat_of register_tests
-  seated = outcome_go (register_tests k es) Refused (At (seat_in k es)) n refl tested passed
+turned : (b : Bool) (n : ℕ) → cond b (Some n) None ≡ cond (not b) None (Some n)
+turned true n = refl
+turned false n = refl
 
-  -- his own entry was found
-  module _ (place : ℕ) (own : place ≡ first_of (is_of k) es) where
-    pub own_seat :
-        (e : Holder) → e ≡ get_or es place zero_holder → place < length es
-        → At (record { holder = k; balance = e.balance; place = place; full = false }) ≡ seat_of k es
-    unfolding place_of
-    own_seat e at l =
-        let his : some (is_of k) es ≡ true = some_in (is_of k) es (rw own at l) in
-        (λ t. At (record { holder = k; balance = balance his t; place = placed his t; full = open_list his t })) ∙ seated
-      where
-        balance : some (is_of k) es ≡ true → e.balance ≡ balance_of k es
-        balance his = ap (λ (h : Holder). h.balance) at ∙ ap (λ (i : ℕ). (get_or es i zero_holder).balance) own ∙ sym (balance_at_lem k es)
+module _ (k : ℕ) (ps : List (List ℕ)) where
+  abbrev es : List Holder
+  es = holders_of ps
 
-        placed : some (is_of k) es ≡ true → place ≡ place_of k es
-        placed his = own ∙ rw his
+  pub own_seat :
+      (place : ℕ) → Some place ≡ position (pair_of k) ps
+      → record { holder = k; balance = get_or (get_or ps place []) 1 0; place = Some place } ≡ seat_in k es
+  unfolding place_of
+  own_seat place found = go (some (is_of k) es) refl (found ∙ sym (found_pair (pair_of k) (is_of k) (own_pair k) ps))
+    where
+      go :
+          (b : Bool) → some (is_of k) es ≡ b → Some place ≡ cond b (Some (first_of (is_of k) es)) None
+          → record { holder = k; balance = get_or (get_or ps place []) 1 0; place = Some place } ≡ seat_in k es
+      go true h e =
+          let at : place ≡ first_of (is_of k) es = cc in
+          let inside : place < length ps = omega (arith, at, in_some (is_of k) es h, holders_length ps) in
+          let balance : get_or (get_or ps place []) 1 0 ≡ balance_of k es = ap (λ (x : Holder). x.balance) (holder_at ps place inside) ∙ ap (λ (i : ℕ). (get_or es i zero_holder).balance) at ∙ sym (balance_at_lem k es) in
+          rw (balance, at, h) refl
+      go false h e = cc
 
-        open_list : some (is_of k) es ≡ true → false ≡ is_full k es
-        open_list his = rw his
-
-    -- none was found: the first free one
-    pub new_seat :
-        (free : ℕ) → free ≡ first_of is_free es → length es ≤ place
-        → At (record { holder = k; balance = 0; place = free; full = leb (length es) free }) ≡ seat_of k es
-    unfolding place_of
-    new_seat free at l =
-        let none-his : some (is_of k) es ≡ false = some_out (is_of k) es (rw own at l) in
-        (λ t. At (record { holder = k; balance = sym (no_balance k es none-his) t; place = placed none-his t; full = full_list none-his t })) ∙ seated
-      where
-        placed : some (is_of k) es ≡ false → free ≡ place_of k es
-        placed none-his = at ∙ rw none-his
-
-        full_list : some (is_of k) es ≡ false → leb (length es) free ≡ is_full k es
-        full_list none-his = at_least free (length es) ∙ rw (none-his, some_is is_free es, at)
+  pub new_seat :
+      (free : _) → None ≡ position (pair_of k) ps → free ≡ position free_pair ps
+      → record { holder = k; balance = 0; place = free } ≡ seat_in k es
+  unfolding place_of
+  new_seat free none at = go (some (is_of k) es) refl (none ∙ sym (found_pair (pair_of k) (is_of k) (own_pair k) ps))
+    where
+      go :
+          (b : Bool) → some (is_of k) es ≡ b → None ≡ cond b (Some (first_of (is_of k) es)) None
+          → record { holder = k; balance = 0; place = free } ≡ seat_in k es
+      go true h e = cc
+      go false h e = rw (at, ← found_pair free_pair is_free (λ e. refl) ps, turned, h, no_balance k es h) refl

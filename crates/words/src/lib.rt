@@ -1,8 +1,8 @@
 // The pool's record with its ring's head, and its receipt, as plain numbers, in a fixed order: what document 02 adds stands behind what was
-// there.
+// there. The conversions are functions and no `From`: their types are other crates' and the arrays std's, which the orphan rule refuses.
 #![tactic(auto)]
 
-ghost use Rattle.std.specs.Prelude.{◌≡◌, cond, ◌+◌, ◌-◌, drop};
+ghost use Rattle.std.specs.Prelude.{◌≡◌, ◌+◌, ◌-◌, drop};
 ghost use Rattle.words.specs.Words.{pool_words, receipt_words, rates_of, opening_of, pool_of, receipt_of, holdings_of, share_of, begins_with};
 
 use accounting::{Books, FeeCounters};
@@ -42,19 +42,10 @@ pub struct Holdings {
     pub supply: u64,
 }
 
-// A flag as a number.
-fn word(flag: bool) -> u64
-    ensures { result ≡ cond flag 1 0 }
-{
-    if flag { 1 } else { 0 }
-}
-
 // The pool as plain numbers.
 pub fn pool_words(p: Pool) -> [u64; POOL_WORDS]
     ensures { result ≡ pool_words p }
 {
-    let enabled = word(p.terms.enabled);
-    let used = word(p.ring.used);
     let books = p.books;
     let terms = p.terms;
     [
@@ -70,13 +61,13 @@ pub fn pool_words(p: Pool) -> [u64; POOL_WORDS]
         p.status,
         terms.open_time,
         terms.fee_model,
-        enabled,
+        u64::from(terms.enabled),
         terms.rates.trade,
         terms.rates.protocol,
         terms.rates.fund,
         terms.rates.creator,
         terms.rates.share,
-        used,
+        u64::from(p.ring.used),
         p.ring.index,
         p.ring.mark,
         terms.charges.token0.points,
@@ -249,21 +240,13 @@ pub fn receipt_of(w: [u64; RECEIPT_WORDS]) -> Receipt
 }
 
 // A vault less its three counters; 0 where they are above it. Each is taken off by itself, so that no sum wraps.
-fn net_or_0(vault: u64, protocol: u64, fund: u64, creator: u64) -> u64
+fn net_or_zero(vault: u64, protocol: u64, fund: u64, creator: u64) -> u64
     ensures { result ≡ vault - (protocol + fund + creator) }
 {
-    if protocol > vault {
-        return 0;
-    }
-    let without_protocol = vault - protocol;
-    if fund > without_protocol {
-        return 0;
-    }
-    let without_fund = without_protocol - fund;
-    if creator > without_fund {
-        return 0;
-    }
-    without_fund - creator
+    vault
+        .saturating_sub(protocol)
+        .saturating_sub(fund)
+        .saturating_sub(creator)
 }
 
 // What a row of the day sheet shows of a pool: the nets and the supply.
@@ -273,8 +256,8 @@ pub fn holdings_of(w: &[u64; POOL_WORDS]) -> Holdings
     let p = pool_of(*w);
     let books = p.books;
     let fees = books.fees;
-    let net0 = net_or_0(books.vault0, fees.protocol0, fees.fund0, fees.creator0);
-    let net1 = net_or_0(books.vault1, fees.protocol1, fees.fund1, fees.creator1);
+    let net0 = net_or_zero(books.vault0, fees.protocol0, fees.fund0, fees.creator0);
+    let net1 = net_or_zero(books.vault1, fees.protocol1, fees.fund1, fees.creator1);
     Holdings {
         net0,
         net1,
@@ -293,18 +276,8 @@ pub fn share_of(w: &[u64; POOL_WORDS]) -> u64
 pub fn stand_at(found: &[u64], row: &[u64], at: usize) -> bool
     ensures { result ≡ begins_with (drop at row.now) found.now }
 {
-    let mut i = 0;
-    while i < found.len() {
-        if i >= row.len() {
-            return false;
-        }
-        if at >= row.len() - i {
-            return false;
-        }
-        if found[i] != row[at + i] {
-            return false;
-        }
-        i += 1;
+    match row.get(at..) {
+        Some(rest) => rest.starts_with(found),
+        None => found.is_empty(),
     }
-    true
 }

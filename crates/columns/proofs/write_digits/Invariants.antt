@@ -4,10 +4,10 @@ use Rattle.columns.specs.Column.{blanks_before, column}
 use Rattle.columns.proofs.write_digits.Given as goal
 
 abbrev pub invariant-loop-at : goal.invariant-loop-at
-invariant-loop-at l =
-    (length l.part ≡ length l.initial.part)
-    × (l.at < length l.part)
-    × (blanks_before l.at l.rest ++ drop l.at l.part ≡ column (length l.initial.part) l.value)
+invariant-loop-at l = record {
+  within : l.at < length l.part;
+  column : blanks_before l.at l.rest ++ drop l.at l.part ≡ column (length l.part) l.value;
+}
 
 abbrev pub decreases-loop-at : goal.decreases-loop-at
 decreases-loop-at l = l.at

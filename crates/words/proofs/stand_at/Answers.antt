@@ -1,19 +1,17 @@
--- `words::stand_at` meets its contract. The loop's invariant: what is left of the numbers and of the row answers for the whole.
+-- `words::stand_at` meets its contract.
+use Rattle.std.proofs.Common.{◌∙◌, ap}
+use Rattle.std.proofs.lemmas.List.{take_rest}
 use native.Mathlib.Omega.{arith}
-use Rattle.words.proofs.Rows.{none_left, row_ends, differs, left_next}
+use Rattle.words.specs.Words.{begins_with}
+use Rattle.words.proofs.Rows.{begins_is, past_row}
 use Rattle.words.proofs.stand_at.Goals as goal
 
-pub returns-then-i-row : goal.returns-then-i-row
-returns-then-i-row c = row_ends c.loop-i.invariant.1 (omega arith) (omega arith)
+pub returns-in-Some : goal.returns-in-Some
+returns-in-Some c =
+    let a = c.args in
+    c.starts_with.ensures.value
+    ∙ begins_is _ _
+    ∙ ap (λ l. begins_with l a.found.now) (c.in-Some.ensures.lookup.0.2 ∙ take_rest a.row.now a.at)
 
-pub returns-then-at-row : goal.returns-then-at-row
-returns-then-at-row c = row_ends c.loop-i.invariant.1 (omega arith) (omega arith)
-
-pub returns-then-found-i : goal.returns-then-found-i
-returns-then-found-i c = differs c.loop-i.invariant.1 (omega arith) (omega arith) c.if-found-i.true
-
-pub loop-i-preserved : goal.loop-i-preserved
-loop-i-preserved c = (omega arith, left_next c.loop-i.invariant.1 (omega arith) (omega arith) c.if-found-i.false)
-
-pub returns : goal.returns
-returns c = none_left c.loop-i.invariant.1 (omega arith)
+pub returns-in-None : goal.returns-in-None
+returns-in-None c = c.is_empty.ensures ∙ past_row c.args.row.now c.args.found.now c.args.at (omega (arith, c.in-None.ensures.lookup))

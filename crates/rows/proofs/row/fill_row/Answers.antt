@@ -4,8 +4,8 @@ use Rattle.rows.proofs.row.fill_row.Goals as goal
 
 pub returns : goal.returns
 returns c =
-    let args = c.args in
-    row_written args.out.now args.number args.a args.b args.c args.d args.e c.requires
+    let row = c.args.row in
+    row_written c.args.out.now row.kind row.a row.b row.c row.d row.e c.requires
     c.write_column.ensures.1
     c.write_column-2.ensures.1
     c.write_column-3.ensures.1

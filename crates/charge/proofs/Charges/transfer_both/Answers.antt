@@ -1,8 +1,8 @@
--- `charge::transfer_each` meets its contract: what the second transfer gives, past the first.
+-- `charge::Charges::transfer_both` meets its contract: what the second transfer gives, past the first.
 use mathlib.Core.Path.{sym, ◌∙◌}
 use Rattle.std.proofs.lemmas.Result.{err_from_is_err_and}
 use Rattle.charge.proofs.FarEnds.{second_refuses, none_refuses}
-use Rattle.charge.proofs.transfer_each.Goals as goal
+use Rattle.charge.proofs.Charges.transfer_both.Goals as goal
 
 pub returns-in_err-end1 : goal.returns-in_err-end1
 returns-in_err-end1 c =
