@@ -1,13 +1,11 @@
 -- Document 01, 'constant_product.rs, then calculator.rs', with document 02 (a): the two swaps with fees.
 -- netIn is the net of the token that goes in, netOut of the other; creatorRate is the rate that counts (0 unless the pool enables it).
-use Rattle.std.specs.Prelude.{ℕ, ◌+◌, ◌-◌, Bool, true, false, [], ◌∷◌, leb, eqb}
+use Rattle.std.specs.Prelude.{Result, Ok, Err, ℕ, ◌+◌, ◌-◌, Bool, true, false, [], ◌∷◌, leb, eqb}
 use Rattle.refusal.specs.Refusal.{panicked}
 use Rattle.refusal.specs.Tests.{Tests, ◌then◌, past, outcome}
 use Rattle.rates.specs.declared.Rates.{Rates}
 use Rattle.rates.specs.Rates.{rate_limits}
 use Rattle.calculator.specs.declared.SwapResult.{SwapResult}
-use Rattle.calculator.specs.declared.SwapAnswer.{SwapAnswer}
-use Rattle.calculator.specs.declared.SwapAnswer.TheVariants.{Swapped, Refused}
 use Rattle.fees.specs.Fees.{fee_up, fee_down, split, pre_fee}
 use Rattle.curve.specs.ConstantProduct.{swap_out, swap_in}
 
@@ -60,13 +58,13 @@ swap_base_output feeOnInput rates creatorRate netIn netOut amount =
 
 -- ---- as functions: they make those tests of the calls again on which they rest
 -- the rate limits, 3; netIn 0, 11
-unfoldable pub input_answer : Bool → Rates → ℕ → ℕ → ℕ → ℕ → SwapAnswer
+unfoldable pub input_answer : Bool → Rates → ℕ → ℕ → ℕ → ℕ → Result SwapResult ℕ
 input_answer feeOnInput rates creatorRate netIn netOut amount =
     outcome
     (rate_limits rates creatorRate
     then ((eqb netIn 0, panicked) ∷ []))
-    Refused
-    (Swapped (swap_base_input feeOnInput rates creatorRate netIn netOut amount))
+    Err
+    (Ok (swap_base_input feeOnInput rates creatorRate netIn netOut amount))
 
 -- output with creator fee at or above netOut, 11; input before or after fees past u64, 11
 unfoldable pub quote_tests : Bool → Rates → ℕ → ℕ → ℕ → ℕ → Tests
@@ -76,10 +74,10 @@ quote_tests feeOnInput rates creatorRate netIn netOut amount =
     ∷ (past (swap_base_output feeOnInput rates creatorRate netIn netOut amount).input, panicked)
     ∷ []
 
-unfoldable pub output_answer : Bool → Rates → ℕ → ℕ → ℕ → ℕ → SwapAnswer
+unfoldable pub output_answer : Bool → Rates → ℕ → ℕ → ℕ → ℕ → Result SwapResult ℕ
 output_answer feeOnInput rates creatorRate netIn netOut amount =
     outcome
     (rate_limits rates creatorRate
     then quote_tests feeOnInput rates creatorRate netIn netOut amount)
-    Refused
-    (Swapped (swap_base_output feeOnInput rates creatorRate netIn netOut amount))
+    Err
+    (Ok (swap_base_output feeOnInput rates creatorRate netIn netOut amount))

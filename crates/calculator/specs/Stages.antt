@@ -1,12 +1,11 @@
 -- What the private steps of this crate answer. No public definition rests on these.
-use Rattle.std.specs.Prelude.{ℕ, ◌+◌, ◌-◌, ◌≤◌, Bool}
-use Rattle.refusal.specs.Tests.{outcome}
-use Rattle.fees.specs.Fees.{million, split}
+use Rattle.std.specs.Prelude.{Result, Ok, Err, ℕ, ◌+◌, ◌-◌, ◌≤◌, Bool, cond}
+use Rattle.refusal.specs.Refusal.{panicked}
+use Rattle.refusal.specs.Tests.{past, outcome}
+use Rattle.fees.specs.Fees.{million, split, pre_fee}
 use Rattle.rates.specs.declared.Rates.{Rates}
 use Rattle.rates.specs.Rates.{highest_fee_rate}
 use Rattle.calculator.specs.declared.SwapResult.{SwapResult}
-use Rattle.calculator.specs.declared.SwapAnswer.{SwapAnswer}
-use Rattle.calculator.specs.declared.SwapAnswer.TheVariants.{Swapped, Refused}
 use Rattle.calculator.specs.Calculator.{charged, quote_tests, swap_base_output}
 
 -- what the rate limits leave
@@ -20,10 +19,14 @@ charged_split rates creatorRate input output total =
     let creator = split total rates.trade creatorRate in
     charged rates input output (total - creator) creator
 
+-- an amount before a fee
+abbrev pub before_fee : ℕ → ℕ → Result ℕ ℕ
+before_fee amount rate = cond (past (pre_fee amount rate)) (Err panicked) (Ok (pre_fee amount rate))
+
 -- a swap by output past the rate limits
-unfoldable pub output_stage : Bool → Rates → ℕ → ℕ → ℕ → ℕ → SwapAnswer
+unfoldable pub output_stage : Bool → Rates → ℕ → ℕ → ℕ → ℕ → Result SwapResult ℕ
 output_stage feeOnInput rates creatorRate netIn netOut amount =
     outcome
     (quote_tests feeOnInput rates creatorRate netIn netOut amount)
-    Refused
-    (Swapped (swap_base_output feeOnInput rates creatorRate netIn netOut amount))
+    Err
+    (Ok (swap_base_output feeOnInput rates creatorRate netIn netOut amount))

@@ -3,16 +3,16 @@
 #![tactic(auto)]
 
 ghost use Rattle.std.specs.Prelude.{true, false, ◌≡◌, ◌+◌, ◌<◌, ◌≤◌};
-ghost use Rattle.math.specs.Ratio.{fit};
-ghost use Rattle.fees.specs.Fees.{million, pre_fee};
+ghost use Rattle.fees.specs.Fees.{million};
 ghost use Rattle.curve.specs.ConstantProduct.{swap_out};
 ghost use Rattle.calculator.specs.Calculator.{charged, swap_base_input, input_answer, output_answer};
-ghost use Rattle.calculator.specs.Stages.{Limited, charged_split, output_stage};
+ghost use Rattle.calculator.specs.Stages.{Limited, charged_split, before_fee, output_stage};
 
+use curve::constant_product::swap_base_output_without_fees;
 use fees::{FEE_RATE_DENOMINATOR_VALUE, creator_part};
-use math::ratio::{Quotient, div_by_sum, mul_div_ceil};
-use rates::{Rates, limit_number};
-use refusal::{ACCEPTED, PANIC};
+use math::ratio::div_by_sum;
+use rates::Rates;
+use refusal::Refusal;
 use share::{scale_ceil, share_ceil, share_floor};
 use wide::widening_mul;
 
@@ -27,14 +27,8 @@ pub struct SwapResult {
     pub creator: u64,
 }
 
-// The result, or the number of the refusal.
-#[derive(Clone, Copy)]
-pub enum SwapAnswer {
-    Swapped(SwapResult),
-    Refused(u64),
-}
-
 // Protocol and fund fee are shares of the trade fee.
+#[tactic(auto, unfolding(crate::specs::Calculator::charged, fees::specs::Fees::fee_down))]
 fn charge(rates: Rates, input: u64, output: u64, trade: u64, creator: u64) -> SwapResult
     requires { rates.protocol + rates.fund ≤ million }
     ensures { result ≡ charged rates input output trade creator }
@@ -52,6 +46,7 @@ fn charge(rates: Rates, input: u64, output: u64, trade: u64, creator: u64) -> Sw
 }
 
 // Fee on input: the creator's part of the total fee by the split, the rest is trade fee.
+#[tactic(auto, using(fees::proofs::Shares::split_le), unfolding(crate::specs::Stages::charged_split))]
 fn charge_split(rates: Rates, creator_rate: u64, input: u64, output: u64, total: u64) -> SwapResult
     requires { Limited rates creator_rate }
     ensures { result ≡ charged_split rates creator_rate input output total }
@@ -61,6 +56,7 @@ fn charge_split(rates: Rates, creator_rate: u64, input: u64, output: u64, total:
 }
 
 // What the curve gives for an input after fees. It is never past the net, so the one long division has a quotient of 64 bits.
+#[tactic(auto, unfolding(curve::specs::ConstantProduct::swap_out))]
 fn swap_out(net_in: u64, net_out: u64, input: u64) -> u64
     requires { 0 < net_in }
     ensures { result ≡ swap_out net_in net_out input }
@@ -68,19 +64,21 @@ fn swap_out(net_in: u64, net_out: u64, input: u64) -> u64
     div_by_sum(widening_mul(input, net_out), net_in, input)
 }
 
-// The amount before a fee at a rate below the whole.
-fn pre_fee(amount: u64, rate: u64) -> Quotient
+// The amount before a fee at a rate below the whole, which is not tested here again as by `calculate_pre_fee_amount` of `fees`; past u64, 11.
+#[tactic(auto, unfolding(fees::specs::Fees::pre_fee, math::specs::Ratio::ceil_of, math::specs::Ratio::fit))]
+fn pre_fee(amount: u64, rate: u64) -> Result<u64, Refusal>
     requires { rate < million }
-    ensures { result ≡ fit (pre_fee amount rate) }
+    ensures { result ≡ before_fee amount rate }
 {
     if rate == 0 {
-        return Quotient::Fits(amount);
+        return Ok(amount);
     }
     let left = FEE_RATE_DENOMINATOR_VALUE - rate;
-    scale_ceil(amount, FEE_RATE_DENOMINATOR_VALUE, left)
+    scale_ceil(amount, FEE_RATE_DENOMINATOR_VALUE, left).map_err(|_| Refusal::PANIC)
 }
 
 // Fee on input: total fee at trade plus creator rate.
+#[tactic(auto, using(math::proofs::Rounding::share_ceil_le), unfolding(crate::specs::Calculator::swap_base_input, crate::specs::Stages::charged_split, fees::specs::Fees::fee_up))]
 fn input_with_fee_on_input(
     rates: Rates,
     creator_rate: u64,
@@ -98,6 +96,7 @@ fn input_with_fee_on_input(
 }
 
 // Fee on output: trade fee on input, creator fee on the curve's output.
+#[tactic(auto, using(math::proofs::Rounding::share_ceil_le), unfolding(crate::specs::Calculator::swap_base_input, fees::specs::Fees::fee_up))]
 fn input_with_fee_on_output(
     rates: Rates,
     creator_rate: u64,
@@ -115,6 +114,7 @@ fn input_with_fee_on_output(
 }
 
 // Swap by input: what an amount gives after fees.
+#[tactic(auto, unfolding(crate::specs::Calculator::input_answer, rates::specs::Rates::rate_limits, refusal::specs::Tests::outcome, refusal::specs::Tests::tested))]
 pub fn swap_base_input(
     fee_on_input: bool,
     rates: Rates,
@@ -122,73 +122,57 @@ pub fn swap_base_input(
     net_in: u64,
     net_out: u64,
     amount: u64,
-) -> SwapAnswer
+) -> Result<SwapResult, Refusal>
     ensures { result ≡ input_answer fee_on_input rates creator_rate net_in net_out amount }
 {
-    let number = limit_number(rates, creator_rate);
-    if number != ACCEPTED {
-        return SwapAnswer::Refused(number);
-    }
+    rates.check_limits(creator_rate)?;
     if net_in == 0 {
-        return SwapAnswer::Refused(PANIC);
+        return Err(Refusal::PANIC);
     }
     if fee_on_input {
-        SwapAnswer::Swapped(input_with_fee_on_input(rates, creator_rate, net_in, net_out, amount))
+        Ok(input_with_fee_on_input(rates, creator_rate, net_in, net_out, amount))
     } else {
-        SwapAnswer::Swapped(input_with_fee_on_output(rates, creator_rate, net_in, net_out, amount))
+        Ok(input_with_fee_on_output(rates, creator_rate, net_in, net_out, amount))
     }
 }
 
 // Fee on input: the curve gives the output itself, and what it asks is the input after both fees.
+#[tactic(auto, using(crate::proofs::Swaps::pre_fee_ge), unfolding(crate::specs::Stages::output_stage, crate::specs::Calculator::quote_tests, crate::specs::Calculator::swap_base_output, crate::specs::Calculator::with_fees, crate::specs::Calculator::charged, crate::specs::Calculator::curve_output, crate::specs::Calculator::curve_input, curve::specs::ConstantProduct::swap_base_output_without_fees, curve::specs::ConstantProduct::swap_in, refusal::specs::Tests::outcome, crate::specs::Stages::charged_split))]
 fn output_with_fee_on_input(
     rates: Rates,
     creator_rate: u64,
     net_in: u64,
     net_out: u64,
     amount: u64,
-) -> SwapAnswer
+) -> Result<SwapResult, Refusal>
     requires { Limited rates creator_rate }
     ensures { result ≡ output_stage true rates creator_rate net_in net_out amount }
 {
-    if amount >= net_out {
-        return SwapAnswer::Refused(PANIC);
-    }
-    let Quotient::Fits(asked) = mul_div_ceil(net_in, amount, net_out - amount) else {
-        return SwapAnswer::Refused(PANIC);
-    };
-    let Quotient::Fits(input) = pre_fee(asked, rates.trade + creator_rate) else {
-        return SwapAnswer::Refused(PANIC);
-    };
-    SwapAnswer::Swapped(charge_split(rates, creator_rate, input, amount, input - asked))
+    let asked = swap_base_output_without_fees(amount, net_in, net_out)?;
+    let input = pre_fee(asked, rates.trade + creator_rate)?;
+    Ok(charge_split(rates, creator_rate, input, amount, input - asked))
 }
 
 // Fee on output: the curve gives the output with its creator fee, and what it asks is the input after the trade fee.
+#[tactic(auto, using(crate::proofs::Swaps::pre_fee_ge), unfolding(crate::specs::Stages::output_stage, crate::specs::Calculator::quote_tests, crate::specs::Calculator::swap_base_output, crate::specs::Calculator::with_fees, crate::specs::Calculator::charged, crate::specs::Calculator::curve_output, crate::specs::Calculator::curve_input, curve::specs::ConstantProduct::swap_base_output_without_fees, curve::specs::ConstantProduct::swap_in, refusal::specs::Tests::outcome))]
 fn output_with_fee_on_output(
     rates: Rates,
     creator_rate: u64,
     net_in: u64,
     net_out: u64,
     amount: u64,
-) -> SwapAnswer
+) -> Result<SwapResult, Refusal>
     requires { Limited rates creator_rate }
     ensures { result ≡ output_stage false rates creator_rate net_in net_out amount }
 {
-    let Quotient::Fits(curve) = pre_fee(amount, creator_rate) else {
-        return SwapAnswer::Refused(PANIC);
-    };
-    if curve >= net_out {
-        return SwapAnswer::Refused(PANIC);
-    }
-    let Quotient::Fits(asked) = mul_div_ceil(net_in, curve, net_out - curve) else {
-        return SwapAnswer::Refused(PANIC);
-    };
-    let Quotient::Fits(input) = pre_fee(asked, rates.trade) else {
-        return SwapAnswer::Refused(PANIC);
-    };
-    SwapAnswer::Swapped(charge(rates, input, amount, input - asked, curve - amount))
+    let curve = pre_fee(amount, creator_rate)?;
+    let asked = swap_base_output_without_fees(curve, net_in, net_out)?;
+    let input = pre_fee(asked, rates.trade)?;
+    Ok(charge(rates, input, amount, input - asked, curve - amount))
 }
 
 // Swap by output: what an amount asks with fees.
+#[tactic(auto, unfolding(crate::specs::Calculator::output_answer, crate::specs::Stages::output_stage, rates::specs::Rates::rate_limits, refusal::specs::Tests::outcome, refusal::specs::Tests::tested))]
 pub fn swap_base_output(
     fee_on_input: bool,
     rates: Rates,
@@ -196,13 +180,10 @@ pub fn swap_base_output(
     net_in: u64,
     net_out: u64,
     amount: u64,
-) -> SwapAnswer
+) -> Result<SwapResult, Refusal>
     ensures { result ≡ output_answer fee_on_input rates creator_rate net_in net_out amount }
 {
-    let number = limit_number(rates, creator_rate);
-    if number != ACCEPTED {
-        return SwapAnswer::Refused(number);
-    }
+    rates.check_limits(creator_rate)?;
     if fee_on_input {
         output_with_fee_on_input(rates, creator_rate, net_in, net_out, amount)
     } else {
