@@ -1,18 +1,16 @@
 -- Document 01, 'constant_product.rs, then calculator.rs': the curve without fees, and LP tokens as trading tokens.
 -- 'Called alone on u64 amounts, none answers 4; a divisor of 0 in a swap or a result past u64 answers 11.'
-use Rattle.std.specs.Prelude.{ℕ, ◌+◌, ◌*◌, ◌-◌, ◌/◌, ◌%◌, cond, [], ◌∷◌, leb, eqb}
-use Rattle.wide.specs.Value.{u128_of}
-use Rattle.divide.specs.Division.{ceil_div}
+use Rattle.std.specs.Prelude.{Result, Ok, Err, ℕ, ◌+◌, ◌*◌, ◌-◌, ◌/◌, cond, [], ◌∷◌, leb, eqb}
+use Rattle.wide.specs.declared.U128.{U128}
+use Rattle.divide.specs.declared.Divided.{Divided}
+use Rattle.divide.specs.Division.{divided_wide, ceil_div}
 use Rattle.refusal.specs.Refusal.{zero_trading_tokens, panicked}
 use Rattle.refusal.specs.Tests.{outcome, past}
-use Rattle.answer.specs.declared.Answer.{Answer}
-use Rattle.answer.specs.declared.Answer.TheVariants.{Amount, Refused}
+use Rattle.answer.specs.Answer.{Answer}
 use Rattle.curve.specs.declared.constant_product.RoundDirection.{RoundDirection}
 use Rattle.curve.specs.declared.constant_product.RoundDirection.TheVariants.{Floor, Ceiling}
-use Rattle.curve.specs.declared.constant_product.LpDivided.{LpDivided}
 use Rattle.curve.specs.declared.constant_product.TradingTokens.{TradingTokens}
 use Rattle.curve.specs.declared.constant_product.TradingTokenResult.{TradingTokenResult}
-use Rattle.curve.specs.declared.constant_product.TradingTokenResult.TheVariants as T
 
 -- by input, on d after fees: out = d × netOut / (netIn + d), down
 unfoldable pub swap_out : ℕ → ℕ → ℕ → ℕ
@@ -34,8 +32,8 @@ swap_base_input_without_fees d netIn netOut =
     ((eqb (netIn + d) 0, panicked)
     ∷ (past (swap_out netIn netOut d), panicked)
     ∷ [])
-    Refused
-    (Amount (swap_out netIn netOut d))
+    Err
+    (Ok (swap_out netIn netOut d))
 
 -- o at or above netOut is 11
 unfoldable pub swap_base_output_without_fees : ℕ → ℕ → ℕ → Answer
@@ -44,20 +42,13 @@ swap_base_output_without_fees o netIn netOut =
     ((leb netOut o, panicked)
     ∷ (past (swap_in netIn netOut o), panicked)
     ∷ [])
-    Refused
-    (Amount (swap_in netIn netOut o))
-
--- none: its number, and zeros
-abbrev pub no_quotient : ℕ → LpDivided
-no_quotient n = record { number = n; quotient = u128_of 0; remainder = 0 }
+    Err
+    (Ok (swap_in netIn netOut o))
 
 -- Document 02, (d): what the division of lp × net by the supply yields, the quotient, of up to 128 bits in two halves, and the remainder; supply 0
 -- is none. 'Quotient times supply plus remainder is the product, with the remainder below the supply' stands in the contract.
-unfoldable pub lp_divided : ℕ → ℕ → ℕ → LpDivided
-lp_divided lp net supply =
-    outcome ((eqb supply 0, zero_trading_tokens) ∷ [])
-    no_quotient
-    (record { number = 0; quotient = u128_of (lp * net / supply); remainder = lp * net % supply })
+unfoldable pub lp_divided : ℕ → ℕ → ℕ → Result (Divided U128) ℕ
+lp_divided lp net supply = outcome ((eqb supply 0, zero_trading_tokens) ∷ []) Err (Ok (divided_wide (lp * net) supply))
 
 -- one token's part: supply 0 is none
 unfoldable pub lp_part : RoundDirection → ℕ → ℕ → ℕ → Answer
@@ -66,19 +57,19 @@ lp_part direction lp supply net =
     ((eqb supply 0, zero_trading_tokens)
     ∷ (past (lp_amount direction lp supply net), panicked)
     ∷ [])
-    Refused
-    (Amount (lp_amount direction lp supply net))
+    Err
+    (Ok (lp_amount direction lp supply net))
 
 abbrev pub tokens : ℕ → TradingTokens
 tokens n = record { 0 = n }
 
 -- both tokens' parts
-unfoldable pub lp_tokens_to_trading_tokens : RoundDirection → ℕ → ℕ → ℕ → ℕ → TradingTokenResult
+unfoldable pub lp_tokens_to_trading_tokens : RoundDirection → ℕ → ℕ → ℕ → ℕ → Result TradingTokenResult ℕ
 lp_tokens_to_trading_tokens direction lp supply net0 net1 =
     outcome
     ((eqb supply 0, zero_trading_tokens)
     ∷ (past (lp_amount direction lp supply net0), panicked)
     ∷ (past (lp_amount direction lp supply net1), panicked)
     ∷ [])
-    T.Refused
-    (T.Amounts (tokens (lp_amount direction lp supply net0)) (tokens (lp_amount direction lp supply net1)))
+    Err
+    (Ok (record { amount0 = tokens (lp_amount direction lp supply net0); amount1 = tokens (lp_amount direction lp supply net1) }))
