@@ -1,111 +1,127 @@
--- What a credit and a debit change: the number and the list that are asked for, and one entry of the list.
+-- What a credit and a debit answer, and the list that they leave: by the seat, and then by the change.
 -- Assumes nothing.
-use Prim.Native.Nat.{ℕ, ◌-◌, ◌≤◌}
-use mathlib.Core.Path.{◌≡◌, refl, ap, ◌∙◌}
-use mathlib.Core.Bool.{Bool, true, false, cond}
-use mathlib.Core.List.{List, [], ◌∷◌}
-use lib.ListN.{length, set}
-use borrow.Author.Tests.{ltb-false, eqb-false}
-use Rattle.refusal.specs.Tests.{Tests, first, outcome}
-use Rattle.refusal.proofs.Stops.{Passed, first_then, outcome_first, outcome_map, outcome_then, outcome_elim}
+use Rattle.std.proofs.Common.{◌≡◌, ℕ, ◌<◌, ◌≤◌, Bool, true, false, cond, List, [], ◌∷◌, length, set, Result, Ok, Err, sym, ap, ◌∙◌, arith, ltb-false}
+use borrow.Author.Tests.{eqb-false}
+use Rattle.refusal.specs.Tests.{Tests, ◌then◌, outcome, tested}
+use Rattle.refusal.proofs.Stops.{Passed, outcome_all}
+use Rattle.refusal.proofs.Stages.{ok_ne_err, same_number, stage_err, stage_passed, stage_value, stage_ok, tested_is}
 use Rattle.register.specs.declared.Holder.{Holder}
-use Rattle.seats.specs.declared.Change.TheVariants.{Refused as Stays}
-use Rattle.seats.specs.declared.Seating.TheVariants.{Refused}
 use Rattle.register.specs.Holders.{is_of, first_of, balance_of}
-use Rattle.register.specs.Changes.{register_tests, credit_tests, credited, debit_tests, debited, is_full, place_of}
-use Rattle.seats.specs.Stages.{seat_in, seat_of, credit_of, debit_of, change_of}
-use Rattle.register.proofs.Laws.{place_in, same_place, not_full}
+use Rattle.register.specs.Changes.{register_tests, credit_tests, credited, debit_tests, debited, place_of}
+use Rattle.register.proofs.Laws.{place_in, owner_in}
 use Rattle.holders.specs.Lent.{credit_answers, credit_leaves, debit_answers, debit_leaves}
-use Rattle.holders.specs.Stages.{readable, change_at, change_in, number_of, left_by, Within}
-use Rattle.holders.proofs.Reading.{seat_read}
+use Rattle.holders.specs.Stages.{answers, leaves}
+use Rattle.seats.specs.declared.Seat.{Seat}
+use Rattle.seats.specs.declared.Change.{Change}
+use Rattle.seats.specs.Stages.{seat_in, seat_of, change_of}
+use Rattle.seats.proofs.Changes.{changed, more, less, credit_seated, debit_seated}
 
--- ---- both at once: a credit's, or a debit's
-abbrev pub answers : Bool → ℕ → ℕ → List Holder → Tests
-answers true = credit_answers
-answers false = debit_answers
-
-abbrev pub leaves : Bool → ℕ → ℕ → List Holder → List Holder
-leaves true = credit_leaves
-leaves false = debit_leaves
-
--- what is accepted counts only past all tests
-outcome_same :
-    {A : Type 0} (ts : Tests) (refused : ℕ → A) {a b : A} → (Passed ts → a ≡ b) → outcome ts refused a ≡ outcome ts refused b
+-- a call's tests that refuse it: that number, and what is left where it is refused
+refused :
+    {X A : Type 0} (v : X) (ts : Tests) (n : ℕ) (bad : ℕ → A) (good : A) → outcome ts (λ n. Err n) (Ok v) ≡ Err n → bad n ≡ outcome ts bad good
 unfolding outcome
-outcome_same [] refused e = e tt
-outcome_same {A} (t ∷ ts) refused {a} {b} e = go t.0 refl (λ h. outcome_same ts refused (λ p. e (h, p)))
+refused v [] n bad good e = absurd (ok_ne_err e)
+refused v (t ∷ ts) n bad good e = go t.0 e (refused v ts n bad good)
   where
     go :
-        (c : Bool) → t.0 ≡ c → (t.0 ≡ false → outcome ts refused a ≡ outcome ts refused b)
-        → cond c (refused t.1) (outcome ts refused a) ≡ cond c (refused t.1) (outcome ts refused b)
-    go true h rest = refl
-    go false h rest = rest h
+        (b : Bool) → cond b (Err t.1) (outcome ts (λ n. Err n) (Ok v)) ≡ Err n → (outcome ts (λ n. Err n) (Ok v) ≡ Err n → bad n ≡ outcome ts bad good)
+        → bad n ≡ cond b (bad t.1) (outcome ts bad good)
+    go true e rest = ap bad (sym (same_number e))
+    go false e rest = rest e
 
+module _ (k : ℕ) (es : List Holder) (last : Tests) (v : Change) (change : Seat → Result Change ℕ) (is : change (seat_in k es) ≡ outcome last (λ n. Err n) (Ok v)) where
+  abbrev all : Tests
+  all = register_tests k es then last
+
+  abbrev after : List Holder
+  after = set es v.place v.entry
+
+  pub no_seat : (n : ℕ) → seat_of k es ≡ Err n → (Err n ≡ tested all) × (es ≡ outcome all (λ n. es) after)
+  unfolding seat_of
+  no_seat n e = (
+    stage_err (seat_in k es) (register_tests k es) last n (λ n. Err n) (Ok tt) e ∙ sym (tested_is all),
+    stage_err (seat_in k es) (register_tests k es) last n (λ n. es) after e,
+  )
+
+  module _ {s : Seat} (seat : seat_of k es ≡ Ok s) where
+    asked : change s ≡ outcome last (λ n. Err n) (Ok v)
+    unfolding seat_of
+    asked = ap change (sym (stage_value (seat_in k es) (register_tests k es) seat)) ∙ is
+
+    -- past the register's tests the last ones decide
+    decided : {A : Type 0} (bad : ℕ → A) (good : A) → outcome last bad good ≡ outcome all bad good
+    unfolding seat_of
+    decided bad good = stage_ok (seat_in k es) (register_tests k es) last bad good seat
+
+    pub no_change : (n : ℕ) → change s ≡ Err n → (Err n ≡ tested all) × (es ≡ outcome all (λ n. es) after)
+    no_change n e = (
+      refused v last n (λ n. Err n) (Ok tt) (sym asked ∙ e) ∙ decided (λ n. Err n) (Ok tt) ∙ sym (tested_is all),
+      refused v last n (λ n. es) after (sym asked ∙ e) ∙ decided (λ n. es) after,
+    )
+
+    module _ (w : Change) (e : change s ≡ Ok w) where
+      pub passed : Passed last
+      passed = stage_passed v last (sym asked ∙ e)
+
+      pub same_change : v ≡ w
+      same_change = stage_value v last (sym asked ∙ e)
+
+      pub changes : (Ok tt ≡ tested all) × (set es w.place w.entry ≡ outcome all (λ n. es) after)
+      changes = (
+        outcome_all last (λ n. Err n) (Ok tt) passed ∙ decided (λ n. Err n) (Ok tt) ∙ sym (tested_is all),
+        ap (λ (c : Change). set es c.place c.entry) (sym same_change) ∙ outcome_all last (λ n. es) after passed ∙ decided (λ n. es) after,
+      )
+
+-- ---- a credit, or a debit
 module _ (k amount : ℕ) (es : List Holder) where
-  abbrev tests : Bool → Tests
-  tests true = credit_tests k amount es
-  tests false = debit_tests k amount es
+  abbrev last : Bool → Tests
+  last true = credit_tests k amount es
+  last false = debit_tests k amount es
 
-  -- a debit that is accepted goes to the holder's entry
-  at_entry : Passed (debit_tests k amount es) → (place_of k es ≡ first_of (is_of k) es) × (is_full k es ≡ false)
-  unfolding debit_tests
-  at_entry h =
-      let some-lp : amount ≡ 0 → ⊥ = eqb-false amount 0 h.0 in
-      let enough : amount ≤ balance_of k es = ltb-false (balance_of k es) amount h.1.0 in
-      (same_place k amount es some-lp enough, not_full k amount es some-lp enough)
+  abbrev asks : Bool → Change
+  asks true = changed (place_of k es) (more k amount es)
+  asks false = changed (first_of (is_of k) es) (less k amount es)
 
-  -- ---- where the entry stands
-  in_list : (b : Bool) → Within (length es) (change_of b amount (seat_in k es))
-  unfolding credit_of debit_of credit_tests debit_tests
-  in_list true = outcome_elim (Within (length es)) _ Stays _ (λ n. tt) (λ h. place_in k es h.1.0)
-  in_list false = outcome_elim (Within (length es)) _ Stays _ (λ n. tt) (λ h. place_in k es (at_entry h).1)
+  seated : (b : Bool) → change_of b amount (seat_in k es) ≡ outcome (last b) (λ n. Err n) (Ok (asks b))
+  seated true = credit_seated k amount es
+  seated false = debit_seated k amount es
 
-  pub within : (b : Bool) → Within (length es) (change_in b k amount es)
-  unfolding change_in seat_of
-  within b = outcome_elim (λ s. Within (length es) (change_at b amount s)) _ Refused _ (λ n. tt) (λ h. in_list b)
+  abbrev Changes : Bool → Result Unit ℕ → List Holder → Type 0
+  Changes b r fs = (r ≡ tested (answers b k amount es)) × (fs ≡ leaves b k amount es)
 
-  -- ---- the number
-  number_at : (b : Bool) → number_of (change_of b amount (seat_in k es)) ≡ first (tests b)
-  unfolding credit_of debit_of credit_tests debit_tests
-  number_at true = outcome_map number_of _ Stays _ ∙ outcome_first _
-  number_at false = outcome_map number_of _ Stays _ ∙ outcome_first _
+  told :
+      (b : Bool) (r : Result Unit ℕ) (fs : List Holder)
+      → (r ≡ tested (register_tests k es then last b)) × (fs ≡ outcome (register_tests k es then last b) (λ n. es) (set es (asks b).place (asks b).entry))
+      → Changes b r fs
+  unfolding credit_answers credit_leaves credited debit_answers debit_leaves debited
+  told true r fs h = h
+  told false r fs h = h
 
-  pub number_told : (b : Bool) → number_of (change_in b k amount es) ≡ first (answers b k amount es)
-  unfolding change_in seat_of credit_answers debit_answers
-  number_told b =
-      outcome_map (λ s. number_of (change_at b amount s)) (register_tests k es) Refused _
-      ∙ ap (outcome (register_tests k es) (λ n. n)) (number_at b)
-      ∙ joined b
-    where
-      joined : (b : Bool) → outcome (register_tests k es) (λ n. n) (first (tests b)) ≡ first (answers b k amount es)
-      joined true = first_then _ _
-      joined false = first_then _ _
+  asks_inside : (b : Bool) → Passed (last b) → (asks b).place < length es
+  unfolding credit_tests debit_tests
+  asks_inside true h = place_in k es h.1.0
+  asks_inside false h = owner_in k amount es (eqb-false amount 0 h.0) (ltb-false (balance_of k es) amount h.1.0)
 
-  -- ---- the list
-  abbrev after : Bool → List Holder
-  after true = credited k amount es
-  after false = debited k amount es
+  module _ (b : Bool) where
+    pub refused_seat : (n : ℕ) → seat_of k es ≡ Err n → Changes b (Err n) es
+    refused_seat n e = told b (Err n) es (no_seat k es (last b) (asks b) (change_of b amount) (seated b) n e)
 
-  left_at : (b : Bool) → left_by es (change_of b amount (seat_in k es)) ≡ outcome (tests b) (λ n. es) (after b)
-  unfolding credit_of debit_of credit_tests debit_tests credited debited
-  left_at true = outcome_map (left_by es) _ Stays _
-  left_at false =
-      outcome_map (left_by es) _ Stays _
-      ∙ outcome_same (debit_tests k amount es) _
-      (λ h. ap (λ (i : ℕ). set es i (record { number = k; balance = balance_of k es - amount })) (at_entry h).0)
+    module _ {s : Seat} (seat : seat_of k es ≡ Ok s) where
+      pub refused_change : (n : ℕ) → change_of b amount s ≡ Err n → Changes b (Err n) es
+      refused_change n e = told b (Err n) es (no_change k es (last b) (asks b) (change_of b amount) (seated b) seat n e)
 
-  pub left_told : (b : Bool) → left_by es (change_in b k amount es) ≡ leaves b k amount es
-  unfolding change_in seat_of credit_leaves debit_leaves credit_answers debit_answers
-  left_told b =
-      outcome_map (λ s. left_by es (change_at b amount s)) (register_tests k es) Refused _
-      ∙ ap (outcome (register_tests k es) (λ n. es)) (left_at b)
-      ∙ joined b
-    where
-      joined : (b : Bool) → outcome (register_tests k es) (λ n. es) (outcome (tests b) (λ n. es) (after b)) ≡ leaves b k amount es
-      joined true = outcome_then _ _ _ _
-      joined false = outcome_then _ _ _ _
+      module _ (w : Change) (e : change_of b amount s ≡ Ok w) where
+        pub accepted_change : Changes b (Ok tt) (set es w.place w.entry)
+        accepted_change = told b (Ok tt) (set es w.place w.entry) (changes k es (last b) (asks b) (change_of b amount) (seated b) seat w e)
 
-  -- ---- the list that is read
-  pub change_read : (b : Bool) → change_in b k amount (readable es) ≡ change_in b k amount es
-  unfolding change_in
-  change_read b = ap (change_at b amount) (seat_read k es)
+        pub few : length es ≤ 256
+        unfolding seat_of register_tests
+        few = ltb-false 256 (length es) (stage_passed (seat_in k es) (register_tests k es) seat).1.0
+
+        pub inside : w.place < length es
+        inside =
+            omega (
+              arith,
+              asks_inside b (passed k es (last b) (asks b) (change_of b amount) (seated b) seat w e),
+              ap (λ (c : Change). c.place) (same_change k es (last b) (asks b) (change_of b amount) (seated b) seat w e),
+            )

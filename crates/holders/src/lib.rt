@@ -2,106 +2,78 @@
 // functions over the core, which is crate `seats` over `register`.
 #![tactic(auto)]
 
-ghost use Rattle.std.specs.Prelude.{◌≡◌, ◌≤◌, length};
-ghost use Rattle.refusal.specs.Tests.{first};
+ghost use Rattle.std.specs.Prelude.{◌≡◌};
+ghost use Rattle.refusal.specs.Tests.{tested};
 ghost use Rattle.register.specs.Changes.{with_opener};
+ghost use Rattle.register.specs.Numbers.{entries_of};
+ghost use Rattle.seats.specs.Stages.{seat_of};
 ghost use Rattle.holders.specs.Lent.{credit_answers, credit_leaves, debit_answers, debit_leaves};
-ghost use Rattle.holders.specs.Stages.{readable, listed, change_in, number_of, left_by, Within};
+ghost use Rattle.holders.specs.Stages.{readable, answers, leaves};
 
-use refusal::ACCEPTED;
+use refusal::Refusal;
 use register::{Holder, MOST_HOLDERS};
-use seats::{Change, Seating, seat_of};
+use seats::{Seat, seat_of};
 
-// The list by value, as the core takes it: two numbers an entry.
-#[derive(Clone, Copy)]
-pub(crate) struct Register {
-    numbers: [u64; 512],
-    count: usize,
-}
-
-// Of a list of over 256 entries none is read: it answers 3 as an empty one does.
-fn read(holders: &[Holder]) -> Register
-    ensures { (listed result ≡ readable holders.now) × (result.count ≤ 256) }
+// The list as the core takes it, two numbers an entry, in a memory that is lent. Of a list of over 256 entries none is read: it answers 3 as an
+// empty one does.
+fn read<'a>(holders: &[Holder], pairs: &'a mut [[u64; 2]; MOST_HOLDERS]) -> &'a [u64]
+    ensures { entries_of result.now ≡ readable holders.now }
 {
-    let mut count = holders.len();
-    if count > MOST_HOLDERS {
-        count = 0;
+    let entries = if holders.len() > MOST_HOLDERS {
+        &[]
+    } else {
+        holders
+    };
+    for (i, entry) in entries.iter().enumerate() {
+        pairs[i] = [entry.number, entry.balance];
     }
-    let mut numbers = [0; 512];
-    let mut i: usize = 0;
-    while i < count {
-        let entry = holders[i];
-        let at = i + i;
-        numbers[at] = entry.number;
-        numbers[at + 1] = entry.balance;
-        i += 1;
-    }
-    Register { numbers, count }
+    pairs[..entries.len()].as_flattened()
 }
 
-impl Register {
-    // What a credit or a debit changes.
-    fn change(self, is_credit: bool, holder: u64, amount: u64) -> Change
-        requires { self.count ≤ 256 }
-        ensures { result ≡ change_in is_credit holder amount (listed self) }
-    {
-        let numbers = self.numbers;
-        let end = self.count + self.count;
-        let seating = seat_of(&numbers[..end], holder);
-        match seating {
-            Seating::Refused(number) => Change::Refused(number),
-            Seating::At(seat) => seat.change(is_credit, amount),
-        }
-    }
-}
-
-// Writes the entry that changes, and says the number: a refusal writes nothing.
-fn apply(holders: &mut [Holder], change: Change) -> u64
-    requires { Within (length holders.old) change }
-    ensures { (result ≡ number_of change) × (holders.new ≡ left_by holders.old change) }
+// What the list holds for a holder.
+fn seat_in(holders: &[Holder], holder: u64) -> Result<Seat, Refusal>
+    ensures { result ≡ seat_of holder holders.now }
 {
-    match change {
-        Change::Refused(number) => number,
-        Change::Entry(at, entry) => {
-            holders[at] = entry;
-            ACCEPTED
-        }
-    }
+    // Of a fixed size, as nothing is allocated.
+    let mut pairs = [[0; 2]; MOST_HOLDERS];
+    seat_of(read(holders, &mut pairs), holder)
 }
 
-// Credits the holder's entry and answers 0; or answers the refusal's number and leaves the list.
-pub fn credit(holders: &mut [Holder], holder: u64, amount: u64) -> u64
-    ensures { (result ≡ first (credit_answers holder amount holders.old))
+// Changes the holder's entry; a refusal leaves the list. Which of the two it does is a flag, as a call with a register brings one to `Seat::change`.
+fn change(holders: &mut [Holder], is_credit: bool, holder: u64, amount: u64) -> Result<(), Refusal>
+    ensures { (result ≡ tested (answers is_credit holder amount holders.old))
+        × (holders.new ≡ leaves is_credit holder amount holders.old) }
+{
+    let change = seat_in(holders, holder)?.change(is_credit, amount)?;
+    holders[change.place] = change.entry;
+    Ok(())
+}
+
+// Credits the holder's entry.
+pub fn credit(holders: &mut [Holder], holder: u64, amount: u64) -> Result<(), Refusal>
+    ensures { (result ≡ tested (credit_answers holder amount holders.old))
         × (holders.new ≡ credit_leaves holder amount holders.old) }
 {
-    let register = read(holders);
-    let change = register.change(true, holder, amount);
-    apply(holders, change)
+    change(holders, true, holder, amount)
 }
 
-// Debits the holder's entry and answers 0; or answers the refusal's number and leaves the list.
-pub fn debit(holders: &mut [Holder], holder: u64, amount: u64) -> u64
-    ensures { (result ≡ first (debit_answers holder amount holders.old))
+// Debits the holder's entry.
+pub fn debit(holders: &mut [Holder], holder: u64, amount: u64) -> Result<(), Refusal>
+    ensures { (result ≡ tested (debit_answers holder amount holders.old))
         × (holders.new ≡ debit_leaves holder amount holders.old) }
 {
-    let register = read(holders);
-    let change = register.change(false, holder, amount);
-    apply(holders, change)
+    change(holders, false, holder, amount)
 }
 
 // An opening's list: the opener first, and zeros.
 pub fn enter_opener(holders: &mut [Holder], opener: Holder)
     ensures { holders.new ≡ with_opener opener holders.old }
 {
-    let count = holders.len();
-    let mut entry = opener;
-    let mut i: usize = 0;
-    while i < count {
-        holders[i] = entry;
-        entry = Holder {
-            number: 0,
-            balance: 0,
-        };
-        i += 1;
+    holders.fill(Holder {
+        number: 0,
+        balance: 0,
+    });
+    if !holders.is_empty() {
+        holders[0] = opener;
     }
 }

@@ -6,7 +6,7 @@ ghost use Rattle.opening.specs.Opening.{out_of_range, books_with, opened_terms, 
 ghost use Rattle.opening.specs.Stages.{opened};
 
 use accounting::{Books, FeeCounters};
-use charge::{Charges, no_charges, nothing_charged};
+use charge::{Charged, Charges};
 use oracle::{Grid, OBSERVATION_NUM};
 use rates::{Rates, Terms};
 use receipt::{OPENING, Receipt, amounts_receipt, refusal_receipt};
@@ -85,7 +85,7 @@ fn zero_terms() -> Terms
             creator: 0,
             share: 0,
         },
-        charges: no_charges(),
+        charges: Charges::default(),
         fee_model: 0,
         open_time: 0,
         enabled: false,
@@ -152,7 +152,7 @@ fn open(opening: Opening) -> Result<OpeningAfter, Refusal>
     if supply < LEAST_SUPPLY {
         return Err(Refusal::INIT_LP_AMOUNT_TOO_LESS);
     }
-    let charged = nothing_charged();
+    let charged = Charged::default();
     Ok(OpeningAfter {
         books: books_with(amount0, amount1, supply),
         terms: opened_terms(opening),

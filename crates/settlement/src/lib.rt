@@ -10,7 +10,7 @@ ghost use Rattle.settlement.specs.Stages.{settled_at};
 use accounting::{Books, FeeCounters};
 use charge::{Charged, Charges};
 use fees::FEE_RATE_DENOMINATOR_VALUE;
-use receipt::{BooksAfter, Paid, Receipt, SETTLE_CREATOR_FEE, Shared, no_trade, refuse_books};
+use receipt::{BooksAfter, Paid, Receipt, SETTLE_CREATOR_FEE, Shared, refuse_books};
 use refusal::Refusal;
 use share::share_floor;
 
@@ -20,18 +20,15 @@ fn settlement_receipt(out0: u64, out1: u64, shared0: u64, shared1: u64, charged:
     ensures { result ≡ settlement_receipt out0 out1 shared0 shared1 charged }
 {
     Receipt {
-        number: 0,
         kind: SETTLE_CREATOR_FEE,
         paid: Paid {
-            in0: 0,
-            in1: 0,
             out0,
             out1,
-            lp: 0,
+            ..Paid::default()
         },
-        trade: no_trade(),
         shared: Shared { shared0, shared1 },
         charged,
+        ..Receipt::default()
     }
 }
 

@@ -5,7 +5,7 @@ ghost use Rattle.std.specs.Prelude.{◌≡◌, ◌≤◌};
 ghost use Rattle.status.specs.Status.{flagged, status_after};
 ghost use Rattle.status.specs.Stages.{changed_status};
 
-use charge::nothing_charged;
+use charge::Charged;
 use receipt::{Receipt, SET_STATUS, amounts_receipt, refusal_receipt};
 use refusal::{Refusal, refuse_if};
 
@@ -48,12 +48,9 @@ pub fn decide(status: u64, bit: u64, flag: u64) -> StatusAfter
             status,
             receipt: refusal_receipt(refusal.number()),
         },
-        Ok(status) => {
-            let charged = nothing_charged();
-            StatusAfter {
-                status,
-                receipt: amounts_receipt(SET_STATUS, 0, 0, 0, 0, 0, charged),
-            }
-        }
+        Ok(status) => StatusAfter {
+            status,
+            receipt: amounts_receipt(SET_STATUS, 0, 0, 0, 0, 0, Charged::default()),
+        },
     }
 }

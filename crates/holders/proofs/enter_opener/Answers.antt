@@ -1,10 +1,15 @@
 -- `holders::enter_opener` meets its contract.
-use Rattle.std.proofs.Common.{◌≡◌, length, ap, ◌∙◌, arith}
-use Rattle.holders.proofs.Opening.{opened, opened_whole}
+use Rattle.std.proofs.Common.{sym, ◌∙◌, eqb-true, rules}
+use borrow.Author.Tests.{eqb-false}
+use Rattle.holders.proofs.Reading.{opener_first, opener_nowhere}
 use Rattle.holders.proofs.enter_opener.Goals as goal
 
-pub returns : goal.returns
-returns c =
-    let h = c.loop-i.invariant in
-    let all : c.loop-i.i ≡ length c.args.holders.now = omega (arith, h.0, h.1.0) in
-    h.1.1.1 ∙ ap (opened c.args.opener c.args.holders.now) all ∙ opened_whole c.args.opener c.args.holders.now
+pub returns-then-not-is_empty : goal.returns-then-not-is_empty
+returns-then-not-is_empty c =
+    opener_first c.args.opener c.args.holders.now c.fill.new.self (c.fill.ensures.after (search rules))
+    (eqb-false _ 0 (sym c.is_empty.ensures ∙ c.if-not-is_empty.true))
+
+pub returns-else-not-is_empty : goal.returns-else-not-is_empty
+returns-else-not-is_empty c =
+    opener_nowhere c.args.opener c.args.holders.now c.fill.new.self (c.fill.ensures.after (search rules))
+    (eqb-true _ 0 (sym c.is_empty.ensures ∙ c.if-not-is_empty.false))
