@@ -1,7 +1,7 @@
 -- Parts of an amount, from its quotient and what is left.
-use mathlib.Core.Path.{◌≡◌, refl, sym, ap, ◌∙◌, subst}
-use Prim.Native.Nat.{ℕ, ◌+◌, ◌-◌, ◌*◌, ◌/◌, ◌%◌, ◌^◌, ◌≤◌, ◌<◌}
-use native.Mathlib.Nat.{add_comm, add-mul-div_right, div-lt_iff_lt-mul, lt_of_le_of_lt, mul-le-mul_left, mul-le-mul_right}
+use mathlib.Core.Path.{◌≡◌, ap, ◌∙◌, subst}
+use Prim.Native.Nat.{ℕ, ◌+◌, ◌*◌, ◌/◌, ◌%◌, ◌^◌, ◌≤◌, ◌<◌}
+use native.Mathlib.Nat.{add_comm, add-mul-div_right, div-lt_iff_lt-mul, mul-le-mul_left, mul-le-mul_right}
 use native.Mathlib.Omega.{arith}
 use Rattle.divide.specs.Division.{ceil_div}
 use Rattle.divide.proofs.Long.{parted}
