@@ -35,9 +35,6 @@ end_behind salt es i few e =
     }
 
 module _ (salt : ℕ) (es : List Holder) (nearest links : List ℕ) (i : ℕ) (h : Behind salt es nearest links i) where
-  pub all_behind : i ≡ 0 → true ≡ numbered es
-  all_behind z = sym (subst (λ (j : ℕ). numbered (drop j es) ≡ true) z h.numbers)
-
   module _ (above : 0 < i) (e : Holder) (at : e ≡ get_or es (i - 1) zero_holder) where
     place : i - 1 < length es
     place = omega (arith, h.inside, above)

@@ -29,9 +29,6 @@ even_pairs : (m : List ℕ) → length m % 2 ≡ 0 → entries_of m ≡ pairs_of
 unfolding entries_of
 even_pairs m h = rw (eq-eqb (length m % 2) 0 h)
 
-pub half : (m : List ℕ) → length m % 2 ≡ 0 → length m / 2 ≡ length (entries_of m)
-half m h = rw (even_pairs m h) (omega (arith, low m, high m))
-
 -- what holds of the entries of an even count of numbers, and of none, holds of those of any
 by_count : (P : List Holder → Type 0) (m : List ℕ) → (length m % 2 ≡ 0 → P (pairs_of m)) → P [] → P (entries_of m)
 unfolding entries_of
@@ -74,21 +71,6 @@ twice i = omega arith
 
 twice_one : (i : ℕ) → suc i + suc i + 1 ≡ suc (suc (i + i + 1))
 twice_one i = omega arith
-
-abbrev pair : List ℕ → ℕ → Holder
-pair m i = record { number = get_or m (i + i) 0; balance = get_or m (i + i + 1) 0 }
-
-pair_at : (m : List ℕ) (i : ℕ) → i < length (pairs_of m) → pair m i ≡ get_or (pairs_of m) i zero_holder
-unfolding pairs_of
-pair_at [] i h = absurd (omega (arith, h))
-pair_at (a ∷ []) i h = absurd (omega (arith, h))
-pair_at (a ∷ b ∷ m) zero h = refl
-pair_at (a ∷ b ∷ m) (suc i) h =
-    (λ t. record { number = get_or (a ∷ b ∷ m) (twice i t) 0; balance = get_or (a ∷ b ∷ m) (twice_one i t) 0 }) ∙ pair_at m i (omega (arith, h))
-
-pub entry_read : (m : List ℕ) (i : ℕ) → i < length (entries_of m) → pair m i ≡ get_or (entries_of m) i zero_holder
-entry_read m i =
-    by_count (λ es. i < length es → pair m i ≡ get_or es i zero_holder) m (λ h l. pair_at m i l) (λ l. absurd (omega (arith, l)))
 
 -- ---- written
 

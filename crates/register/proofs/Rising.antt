@@ -43,9 +43,6 @@ end_rising es next i e =
     }
 
 module _ (es : List Holder) (next i : ℕ) (h : Rising es next i) where
-  pub all_rising : i ≡ 0 → (next ≡ 0 → ⊥) → numbered es ≡ true
-  all_rising z f = subst (λ (j : ℕ). numbered (drop j es) ≡ true) z (h.numbers f)
-
   module _ (above : 0 < i) (e : Holder) (at : e ≡ get_or es (i - 1) zero_holder) where
     place : i - 1 < length es
     place = omega (arith, h.inside, above)

@@ -59,9 +59,6 @@ module _ (links : List ℕ) (es : List Holder) (at : ℕ) where
         let m = held_of (get_or es i zero_holder) (mark_of s (number_at es i)) (mark_of s own) (w.mark l) in
         w.linked.from i (omega (arith, w.behind)) l m.1 ∙ ap (λ (k : ℕ). next_of s k es (i + 1)) m.0
 
-    pub walk_further : i < length es → i < get_or links i 0
-    walk_further l = omega (arith, link_on l)
-
     module _ (e a : Holder) (here : e ≡ get_or es i zero_holder) (there : a ≡ get_or es at zero_holder) where
       pub walk_on : i < length es → (e.number ≡ a.number → ⊥) → Walked links es at (get_or links i 0)
       walk_on l other = record {
