@@ -113,7 +113,7 @@ fn input_with_fee_on_output(
     charge(rates, amount, curve - creator, trade, creator)
 }
 
-// Swap by input: what an amount gives after fees.
+// Swap by input: what an amount gives after fees. Its parameters, here and below, are those of the definition `input_answer`.
 #[tactic(auto, unfolding(crate::specs::Calculator::input_answer, rates::specs::Rates::rate_limits, refusal::specs::Tests::outcome, refusal::specs::Tests::tested))]
 pub fn swap_base_input(
     fee_on_input: bool,

@@ -8,13 +8,11 @@ use native.Mathlib.Nat.{eq-zero-or-pos, ne_of_gt}
 use native.Mathlib.Omega.{arith}
 use native.Mathlib.Decide.{dec_lt}
 use lib.Arith.{digits_div}
-use borrow.Author.Tests.{lt-ltb, le-ltb, eq-eqb, ne_eqb}
+use borrow.Author.Tests.{ne_eqb}
 use Rattle.divide.specs.Division.{ceil_div}
 use Rattle.divide.proofs.Digits.{once_less}
 use Rattle.divide.proofs.Long.{parted}
-use Rattle.std.specs.Prelude.{Ok, Err}
-use Rattle.math.specs.declared.ratio.NoQuotient.TheVariants.{Past, NoDivisor}
-use Rattle.math.specs.Ratio.{fit, floor_of, ceil_of}
+use Rattle.math.specs.Ratio.{fit, ceil_of}
 
 -- two numbers are in order one way or the other
 pub lt_or_le : (a b : ℕ) → (a < b) ⊎ (b ≤ a)
@@ -146,43 +144,7 @@ shares_le amount r s whole h =
 
 -- ---- answers
 
--- a number that fits a u64
-pub fit_fits : (n : ℕ) → n < 2 ^ 64 → fit n ≡ Ok n
-unfolding fit
-fit_fits n h = simp (lt-ltb n (2 ^ 64) h)
-
--- and one that is past it
-pub fit_past : (n : ℕ) → 2 ^ 64 ≤ n → fit n ≡ Err Past
-unfolding fit
-fit_past n h = simp (le-ltb n (2 ^ 64) h)
-
--- a divisor of 0
-pub floor_none : (n d : ℕ) → d ≡ 0 → floor_of n d ≡ Err NoDivisor
-unfolding floor_of
-floor_none n d h = simp (eq-eqb d 0 h)
-
-pub ceil_none : (n d : ℕ) → d ≡ 0 → ceil_of n d ≡ Err NoDivisor
+-- rounded up, by a divisor that is not 0
+pub ceil_is : (n d : ℕ) → 0 < d → ceil_of n d ≡ fit (ceil_div n d)
 unfolding ceil_of
-ceil_none n d h = simp (eq-eqb d 0 h)
-
--- any other divisor
-module _ (n d : ℕ) (h : 0 < d) where
-  pub floor_is : floor_of n d ≡ fit (n / d)
-  unfolding floor_of
-  floor_is = simp (ne_eqb d 0 (ne_of_gt h))
-
-  pub floor_fits : n / d < 2 ^ 64 → floor_of n d ≡ Ok (n / d)
-  floor_fits p = floor_is ∙ fit_fits (n / d) p
-
-  pub floor_past : 2 ^ 64 ≤ n / d → floor_of n d ≡ Err Past
-  floor_past p = floor_is ∙ fit_past (n / d) p
-
-  pub ceil_is : ceil_of n d ≡ fit (ceil_div n d)
-  unfolding ceil_of
-  ceil_is = simp (ne_eqb d 0 (ne_of_gt h))
-
-  pub ceil_fits : ceil_div n d < 2 ^ 64 → ceil_of n d ≡ Ok (ceil_div n d)
-  ceil_fits p = ceil_is ∙ fit_fits (ceil_div n d) p
-
-  pub ceil_past : 2 ^ 64 ≤ ceil_div n d → ceil_of n d ≡ Err Past
-  ceil_past p = ceil_is ∙ fit_past (ceil_div n d) p
+ceil_is n d h = simp (ne_eqb d 0 (ne_of_gt h))

@@ -14,7 +14,7 @@ pub enum NoQuotient {
 }
 
 // a * b / d, rounded down, with the remainder.
-#[tactic(auto, unfolding(crate::specs::Ratio::parts_of))]
+#[tactic(auto, using(crate::proofs::Rounding::halves_past), unfolding(crate::specs::Ratio::parts_of))]
 fn mul_div(a: u64, b: u64, d: u64) -> Result<Divided<u64>, NoQuotient>
     ensures { result ≡ parts_of (a * b) d }
 {
@@ -79,6 +79,7 @@ pub fn div_by_sum(n: U128, x: u64, y: u64) -> u64
 }
 
 // a * b / (x + y), rounded down: divisors reach 65 bits, since net plus input can pass 2^64. Such a sum is above any high half, so its quotient fits.
+#[tactic(auto, unfolding(crate::specs::Ratio::floor_of, crate::specs::Ratio::fit))]
 pub fn mul_div_sum(a: u64, b: u64, x: u64, y: u64) -> Result<u64, NoQuotient>
     ensures { result ≡ floor_of (a * b) (x + y) }
 {

@@ -1,7 +1,7 @@
 // Parts of an amount at a rate, as rate / whole of it (floor_div and ceil_div of the original's curve/fees.rs). The whole has at most 33 bits, so u64 is wide enough throughout.
 #![tactic(auto)]
 
-ghost use Rattle.std.specs.Prelude.{◌&&◌, ◌≡◌, ◌*◌, ◌/◌, ◌^◌, ◌≤◌, ◌<◌, ltb, leb};
+ghost use Rattle.std.specs.Prelude.{◌&&◌, ◌≡◌, ◌+◌, ◌*◌, ◌/◌, ◌^◌, ◌≤◌, ◌<◌, ltb, leb};
 ghost use Rattle.divide.specs.Division.{ceil_div};
 ghost use Rattle.math.specs.Ratio.{ceil_of};
 
@@ -15,15 +15,25 @@ fn is_short(amount: u64, whole: u64) -> bool
     amount < 0x1000_0000_0000 && whole <= 0x10_0000
 }
 
+// (amount * rate + more) / whole: rounded down where no more is added, and up where one less than the whole is.
+#[inline(always)]
+#[tactic(auto, using(crate::proofs::Shares::shared_is, crate::proofs::Shares::shared_fits))]
+fn share(amount: u64, rate: u64, whole: u64, more: u64) -> u64
+    requires { (rate ≤ whole) × (more < whole) × (whole ≤ 2 ^ 32) }
+    ensures { result ≡ (amount * rate + more) / whole }
+{
+    if is_short(amount, whole) {
+        return (amount * rate + more) / whole;
+    }
+    amount / whole * rate + (amount % whole * rate + more) / whole
+}
+
 // amount * rate / whole, rounded down: protocol, fund and shared part.
 pub fn share_floor(amount: u64, rate: u64, whole: u64) -> u64
     requires { (rate ≤ whole) × (0 < whole) × (whole ≤ 2 ^ 32) }
     ensures { result ≡ amount * rate / whole }
 {
-    if is_short(amount, whole) {
-        return amount * rate / whole;
-    }
-    amount / whole * rate + amount % whole * rate / whole
+    share(amount, rate, whole, 0)
 }
 
 // amount * rate / whole, rounded up: trading and creator fee.
@@ -31,10 +41,7 @@ pub fn share_ceil(amount: u64, rate: u64, whole: u64) -> u64
     requires { (rate ≤ whole) × (0 < whole) × (whole ≤ 2 ^ 32) }
     ensures { result ≡ ceil_div (amount * rate) whole }
 {
-    if is_short(amount, whole) {
-        return (amount * rate + (whole - 1)) / whole;
-    }
-    amount / whole * rate + (amount % whole * rate + (whole - 1)) / whole
+    share(amount, rate, whole, whole - 1)
 }
 
 // amount * whole / part, rounded up: the amount before fees, of which the part stays after them.
