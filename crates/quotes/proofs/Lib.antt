@@ -1,3 +1,4 @@
-pub mod Answers
+pub mod Chain
 pub mod Sides
+pub mod Answers
 pub mod Laws

@@ -1,7 +1,7 @@
 -- Document 01 with document 02 (a), (b) and (c), the two swaps up to the caller's limit: what a swap moves at the vaults and charges in fees,
 -- over a pool's terms t, status and books b.
 -- Each swap's whole list stands in `swap`; both begin with `front_tests`, and `net_tests` follow, by output after a 14.
-use Rattle.std.specs.Prelude.{ℕ, Bool, true, false, cond, [], ◌∷◌, ltb, eqb}
+use Rattle.std.specs.Prelude.{Result, Ok, Err, ℕ, Bool, true, false, cond, [], ◌∷◌, ltb, eqb}
 use Rattle.refusal.specs.Refusal.{not_approved, exceeded_slippage, invalid_vault, invalid_fee_model, require_violated, panicked, transfer_fee_calculate_not_match}
 use Rattle.refusal.specs.Tests.{Tests, ◌then◌, past, outcome}
 use Rattle.rates.specs.declared.Terms.{Terms}
@@ -13,7 +13,7 @@ use Rattle.accounting.specs.declared.Books.{Books}
 use Rattle.accounting.specs.Counters.{of_token, net0, net1, counter_tests}
 use Rattle.charge.specs.declared.Charge.{Charge}
 use Rattle.charge.specs.declared.Charged.{Charged}
-use Rattle.charge.specs.Charge.{rest_of, least_sent, sent_tests, nothing_charged, charged_on}
+use Rattle.charge.specs.Charge.{rest_of, least_sent, sent_tests, charged_on}
 use Rattle.status.specs.Status.{bit}
 use Rattle.quotes.specs.declared.Quote.{Quote}
 
@@ -114,16 +114,10 @@ all_tests byInput t status b direction amount limit clock =
     then (calculator_tests byInput (on_input t.fee_model zeroIn) t.rates (creator_rate t) (net_in zeroIn b) (net_out zeroIn b) moved
     then slippage_tests byInput (solver_amount byInput t zeroIn s) limit)))
 
--- ---- the quote: what the swap moves at the vaults and charges in fees, with the nets and the tokens' charges; a refused one's number and zeros
-abbrev pub nothing : SwapResult
-nothing = record { input = 0; output = 0; trade = 0; protocol = 0; fund = 0; creator = 0 }
-
-unfoldable pub refused_quote : ℕ → Quote
-refused_quote n = record { number = n; result = nothing; net0 = 0; net1 = 0; charged = nothing_charged }
-
-unfoldable pub quote_of : Bool → Terms → ℕ → Books → ℕ → ℕ → ℕ → ℕ → Quote
+-- ---- the quote: what the swap moves at the vaults and charges in fees, with the nets and the tokens' charges; or a refused one's number
+unfoldable pub quote_of : Bool → Terms → ℕ → Books → ℕ → ℕ → ℕ → ℕ → Result Quote ℕ
 quote_of byInput t status b direction amount limit clock =
     let zeroIn = eqb direction 0 in
     let s = result_of byInput t b zeroIn (vault_amount byInput t zeroIn amount) in
-    outcome (all_tests byInput t status b direction amount limit clock) refused_quote
-    (record { number = 0; result = s; net0 = net0 b; net1 = net1 b; charged = charged_of byInput t zeroIn amount s })
+    outcome (all_tests byInput t status b direction amount limit clock) Err
+    (Ok (record { result = s; net0 = net0 b; net1 = net1 b; charged = charged_of byInput t zeroIn amount s }))

@@ -1,39 +1,44 @@
 -- What the private steps of this crate answer. No public definition rests on these.
-use Rattle.std.specs.Prelude.{ℕ, ◌+◌, Bool, [], ◌∷◌}
+use Rattle.std.specs.Prelude.{Result, Ok, Err, ℕ, ◌+◌, Bool, [], ◌∷◌, eqb}
 use Rattle.refusal.specs.Refusal.{math_overflow}
 use Rattle.refusal.specs.Tests.{Tests, ◌then◌, past, outcome}
+use Rattle.rates.specs.declared.Terms.{Terms}
+use Rattle.rates.specs.Rates.{on_input}
 use Rattle.calculator.specs.declared.SwapResult.{SwapResult}
-use Rattle.charge.specs.declared.Charged.{Charged}
-use Rattle.accounting.specs.declared.FeeCounters.{FeeCounters}
 use Rattle.accounting.specs.declared.Books.{Books}
-use Rattle.accounting.specs.Counters.{of_token}
-use Rattle.accounting.specs.Booking.{booked, booking_tests}
+use Rattle.accounting.specs.Counters.{of_token, net0, net1}
+use Rattle.accounting.specs.Booking.{creator_token, booked, booking_tests}
 use Rattle.oracle.specs.declared.Ring.{Ring}
-use Rattle.oracle.specs.Ring.{Entry, price, ring_tests}
+use Rattle.oracle.specs.Ring.{Entry, price}
+use Rattle.quotes.specs.Quotes.{vault_amount, charged_of, result_of}
 use Rattle.swap.specs.declared.SwapAfter.{SwapAfter}
-use Rattle.swap.specs.Swap.{refused_swap, accepted_swap}
+use Rattle.swap.specs.Swap.{paid_books, swap_tests, accepted_swap}
 
--- vault 8; ring, with the nets before the swap known
-abbrev pub pay_tests : Bool → SwapResult → Books → Ring → Entry → ℕ → ℕ → ℕ → Tests
-pay_tests zeroIn s b ring e n0 n1 clock =
-    ((past (of_token zeroIn b.vault0 b.vault1 + s.input), math_overflow)
-    ∷ [])
-    then ring_tests ring e clock (price n0 n1) (price n1 n0)
+-- a vault with what is paid in
+abbrev pub room : ℕ → ℕ → Tests
+room vault input = (past (vault + input), math_overflow) ∷ []
 
--- a counter past u64, 11; vault 8; ring
-abbrev pub book_tests : Bool → Bool → SwapResult → Books → Ring → Entry → ℕ → ℕ → ℕ → Tests
-book_tests zeroIn zeroFee s b ring e n0 n1 clock =
-    booking_tests zeroIn zeroFee s.protocol s.fund s.creator b.fees then pay_tests zeroIn s b ring e n0 n1 clock
+abbrev pub paid_in : ℕ → ℕ → Result ℕ ℕ
+paid_in vault input = outcome (room vault input) Err (Ok (vault + input))
 
--- a swap whose counters are booked
-abbrev pub paid_swap : Bool → Bool → Bool → SwapResult → Charged → FeeCounters → Books → Ring → Entry → ℕ → ℕ → ℕ → SwapAfter
-paid_swap byInput zeroIn zeroFee s charged fees b ring e n0 n1 clock =
-    outcome (pay_tests zeroIn s b ring e n0 n1 clock) (refused_swap b ring)
-    (accepted_swap byInput zeroIn zeroFee s charged fees b ring e (price n0 n1) (price n1 n0) clock)
+-- a counter past u64, 11; vault 8
+abbrev pub pay_tests : Bool → Bool → SwapResult → Books → Tests
+pay_tests zeroIn zeroFee s b =
+    booking_tests zeroIn zeroFee s.protocol s.fund s.creator b.fees
+    then room (of_token zeroIn b.vault0 b.vault1) s.input
 
--- a swap whose amounts are known
-unfoldable pub booked_swap : Bool → Bool → Bool → SwapResult → Charged → Books → Ring → Entry → ℕ → ℕ → ℕ → SwapAfter
-booked_swap byInput zeroIn zeroFee s charged b ring e n0 n1 clock =
-    outcome (book_tests zeroIn zeroFee s b ring e n0 n1 clock) (refused_swap b ring)
-    (accepted_swap byInput zeroIn zeroFee s charged (booked zeroIn zeroFee s.protocol s.fund s.creator b.fees) b ring e
-    (price n0 n1) (price n1 n0) clock)
+-- the books after a quoted swap
+unfoldable pub paid_at : Bool → Bool → SwapResult → Books → Result Books ℕ
+paid_at zeroIn zeroFee s b =
+    outcome (pay_tests zeroIn zeroFee s b) Err (Ok (paid_books zeroIn s (booked zeroIn zeroFee s.protocol s.fund s.creator b.fees) b))
+
+-- the whole swap, or a refusal's number
+unfoldable pub swap_answer : Bool → Terms → ℕ → Books → Ring → Entry → ℕ → ℕ → ℕ → ℕ → Result SwapAfter ℕ
+swap_answer byInput t status b ring e direction amount limit clock =
+    let zeroIn = eqb direction 0 in
+    let feeOnInput = on_input t.fee_model zeroIn in
+    let zeroFee = creator_token feeOnInput zeroIn in
+    let s = result_of byInput t b zeroIn (vault_amount byInput t zeroIn amount) in
+    outcome (swap_tests byInput zeroIn feeOnInput zeroFee s t status b ring e direction amount limit clock) Err
+    (Ok (accepted_swap byInput zeroIn zeroFee s (charged_of byInput t zeroIn amount s) (booked zeroIn zeroFee s.protocol s.fund s.creator b.fees) b ring e
+    (price (net0 b) (net1 b)) (price (net1 b) (net0 b)) clock))

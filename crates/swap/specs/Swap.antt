@@ -1,7 +1,7 @@
 -- Document 01, 'Swap by input' (direction, amount, minimum, clock) and 'Swap by output' (direction, amount, maximum, clock), with
 -- document 02 (a), (b), (c) and (f), over a pool's terms t, status and books b, the ring's head and its newest entry e, as an update sees it. zeroIn is
 -- true where token 0 goes in (direction 0).
-use Rattle.std.specs.Prelude.{ℕ, ◌+◌, ◌-◌, Bool, true, false, ◌∷◌, ltb, leb, eqb}
+use Rattle.std.specs.Prelude.{Ok, Err, ℕ, ◌+◌, ◌-◌, Bool, true, false, ◌∷◌, ltb, leb, eqb}
 use Rattle.refusal.specs.Refusal.{exceeded_slippage, math_overflow, require_violated, panicked, transfer_fee_calculate_not_match}
 use Rattle.refusal.specs.Tests.{Tests, ◌then◌, past, outcome}
 use Rattle.rates.specs.declared.Terms.{Terms}
@@ -13,7 +13,6 @@ use Rattle.accounting.specs.declared.Books.{Books}
 use Rattle.accounting.specs.Counters.{of_token, net0, net1}
 use Rattle.accounting.specs.Booking.{creator_token, booked}
 use Rattle.oracle.specs.declared.Ring.{Ring}
-use Rattle.oracle.specs.declared.Update.TheVariants as U
 use Rattle.oracle.specs.Ring.{Entry, price, ring_tests, accepted_update}
 use Rattle.oracle.specs.Update.{after_of}
 use Rattle.receipt.specs.declared.Receipt.{Receipt}
@@ -71,7 +70,7 @@ swap_tests false zeroIn feeOnInput zeroFee = output_tests zeroIn feeOnInput zero
 -- ---- what is given
 -- a refused swap: books and head as they were, the number and zeros, nothing to be written
 unfoldable pub refused_swap : Books → Ring → ℕ → SwapAfter
-refused_swap b ring n = record { books = b; ring = ring; receipt = refusal n; update = U.Refused n }
+refused_swap b ring n = record { books = b; ring = ring; receipt = refusal n; update = Err n }
 
 -- a vault adds what was paid in and loses what was paid out; the fees go to their counters
 unfoldable pub paid_books : Bool → SwapResult → FeeCounters → Books → Books
@@ -113,9 +112,9 @@ accepted_swap byInput zeroIn zeroFee s charged fees b ring e price0 price1 clock
     let u = accepted_update ring e clock price0 price1 in
     record {
       books = paid_books zeroIn s fees b;
-      ring = (after_of ring u).ring;
+      ring = after_of u;
       receipt = swap_receipt byInput zeroIn zeroFee s charged clock;
-      update = u;
+      update = Ok u;
     }
 
 -- ---- the swap: by input on what arrives, by output on what leaves

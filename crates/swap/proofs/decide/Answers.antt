@@ -1,24 +1,15 @@
--- `swap::decide` meets its contract.
+-- `swap::decide` meets its contract: what `accept` answers, as it is given (`Laws.antt`).
+use Rattle.std.proofs.Common.{sym, ap, ◌∙◌}
 use Rattle.oracle.specs.Ring.{seen}
-use Rattle.quotes.proofs.Laws.{quote_covered}
-use Rattle.swap.proofs.Laws.{quote_refused, quote_booked}
+use Rattle.swap.proofs.Laws.{given, given_is}
 use Rattle.swap.proofs.decide.Goals as goal
 
-pub returns-then-quote-ne-ACCEPTED : goal.returns-then-quote-ne-ACCEPTED
-returns-then-quote-ne-ACCEPTED c =
+pub returns-in-Ok : goal.returns-in-Ok
+returns-in-Ok c =
     let a = c.args in
-    quote_refused a.terms a.status a.books a.ring (seen a.ring a.entries.now) a.direction a.amount a.limit a.clock a.by_input
-    c.quote_swap-quote.ensures c.refused_swap.ensures c.if-quote-ne-ACCEPTED.true
+    ap (given a.terms a.status a.books a.ring (seen a.ring a.entries.now) a.direction a.amount a.limit a.clock a.by_input) (sym c.in-Ok.is ∙ c.accept.ensures) ∙ given_is a.terms a.status a.books a.ring (seen a.ring a.entries.now) a.direction a.amount a.limit a.clock a.by_input
 
-pub book-requires : goal.book-requires
-book-requires c =
+pub returns-in-Err : goal.returns-in-Err
+returns-in-Err c =
     let a = c.args in
-    quote_covered a.by_input a.terms a.status a.books a.direction a.amount a.limit a.clock
-    c.quote_swap-quote.ensures c.if-quote-ne-ACCEPTED.false
-
-pub returns : goal.returns
-returns c =
-    let a = c.args in
-    quote_booked a.terms a.status a.books a.ring (seen a.ring a.entries.now) a.direction a.amount a.limit a.clock a.by_input
-    c.quote_swap-quote.ensures c.if-quote-ne-ACCEPTED.false c.is_creator_fee_on_input-fee_on_input.ensures c.creator_token-zero_fee.ensures
-    c.seen-newest.ensures c.book.ensures
+    rw c.refused_swap.ensures (ap (given a.terms a.status a.books a.ring (seen a.ring a.entries.now) a.direction a.amount a.limit a.clock a.by_input) (sym c.in-Err.is ∙ c.accept.ensures) ∙ given_is a.terms a.status a.books a.ring (seen a.ring a.entries.now) a.direction a.amount a.limit a.clock a.by_input)
