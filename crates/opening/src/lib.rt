@@ -162,6 +162,7 @@ fn open(opening: Opening) -> Result<OpeningAfter, Refusal>
 }
 
 // A refusal becomes zeros with its number.
+#[tactic(auto, using(crate::proofs::Decision::accepted, crate::proofs::Decision::refused))]
 pub fn decide(opening: Opening) -> OpeningAfter
     ensures { result ≡ opening_after opening }
 {
