@@ -67,7 +67,8 @@ impl Swap {
         }
     }
 
-    // Fee on input: the creator's part of the total fee by the split, the rest is trade fee.
+    // Fee on input: the creator's part of the total fee by the split, the rest is trade fee. Inlined, so that no swap has to stand in memory for it.
+    #[inline(always)]
     #[tactic(auto, using(fees::proofs::Shares::split_le), unfolding(crate::specs::Stages::charged_split))]
     fn charge_split(self, input: u64, output: u64, total: u64) -> SwapResult
         ensures { result ≡ charged_split self.rates self.creator_rate input output total }
