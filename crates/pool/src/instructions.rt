@@ -1,7 +1,7 @@
 // The calls, under the names of the original's instructions. None of them has a branch: the crates `swap`, `liquidity`, `settlement`,
 // `status` and `opening` decide, and a refused call's answer repeats the old values.
 ghost use Rattle.std.specs.Prelude.{◌≡◌};
-ghost use Rattle.pool.specs.State.{done};
+ghost use Rattle.pool.specs.State.{done, done_of};
 ghost use Rattle.pool.specs.Calls.{zero_pool, opening as opening_of, decision_of, swap_base_input, swap_base_output, change_of, deposit, withdraw, settlement, set_status};
 
 use crate::state::{After, Decision, Opened, Pool};
@@ -16,33 +16,31 @@ use swap::decide as decide_swap;
 
 impl Pool {
     // A pool of zeros, which a refused opening gives.
+    #[tactic(auto, unfolding(crate::specs::Calls::zero_pool, opening::specs::Opening::refused_opening))]
     pub fn zero() -> Pool
         ensures { result ≡ zero_pool }
     {
         let zeros = refuse_opening(ACCEPTED);
-        let books = zeros.books;
-        let terms = zeros.terms;
-        let grid = zeros.grid;
-        Pool::start(books, terms, grid)
+        Pool::start(zeros.books, zeros.terms, zeros.grid)
     }
 
     // A new pool, and the ring's entries.
+    #[tactic(auto, unfolding(crate::specs::Calls::opening, crate::specs::Calls::zero_entries))]
     pub fn open(opening: Opening) -> Opened
         ensures { done result.after result.entries ≡ opening_of opening }
     {
         let opened = decide_opening(opening);
-        let receipt = opened.receipt;
-        let books = opened.books;
-        let terms = opened.terms;
-        let grid = opened.grid;
-        let pool = Pool::start(books, terms, grid);
         Opened {
-            after: After { pool, receipt },
+            after: After {
+                pool: Pool::start(opened.books, opened.terms, opened.grid),
+                receipt: opened.receipt,
+            },
             entries: [0; RING_WORDS],
         }
     }
 
     // All of a swap but the writing.
+    #[tactic(auto, unfolding(crate::specs::Calls::decision_of))]
     pub fn decide(
         self,
         entries: &[u64; RING_WORDS],
@@ -54,30 +52,50 @@ impl Pool {
     ) -> Decision
         ensures { result ≡ decision_of by_input self entries.now direction amount limit clock }
     {
-        let terms = self.terms;
-        let status = self.status;
-        let books = self.books;
-        let ring = self.ring;
-        let s = decide_swap(
-            by_input, terms, status, books, ring, entries, direction, amount, limit, clock,
+        let decided = decide_swap(
+            by_input,
+            self.terms,
+            self.status,
+            self.books,
+            self.ring,
+            entries,
+            direction,
+            amount,
+            limit,
+            clock,
         );
-        let receipt = s.receipt;
-        let update = s.update;
-        let books = s.books;
-        let ring = s.ring;
-        let pool = Pool {
-            books,
-            terms,
-            status,
-            ring,
-        };
         Decision {
-            after: After { pool, receipt },
-            update,
+            after: After {
+                pool: Pool {
+                    books: decided.books,
+                    ring: decided.ring,
+                    ..self
+                },
+                receipt: decided.receipt,
+            },
+            update: decided.update,
         }
     }
 
+    // Either swap, decided and then written.
+    fn swap(
+        self,
+        entries: &mut [u64; RING_WORDS],
+        by_input: bool,
+        direction: u64,
+        amount: u64,
+        limit: u64,
+        clock: u64,
+    ) -> After
+        ensures { done result entries.new ≡ done_of entries.old (decision_of by_input self entries.old direction amount limit clock) }
+    {
+        let decision = self.decide(entries, by_input, direction, amount, limit, clock);
+        store(entries, decision.update);
+        decision.after
+    }
+
     // An exact amount in, at least a minimum out.
+    #[tactic(auto, unfolding(crate::specs::Calls::swap_base_input))]
     pub fn swap_base_input(
         self,
         entries: &mut [u64; RING_WORDS],
@@ -88,13 +106,11 @@ impl Pool {
     ) -> After
         ensures { done result entries.new ≡ swap_base_input self entries.old direction amount minimum clock }
     {
-        let decision = self.decide(entries, true, direction, amount, minimum, clock);
-        let update = decision.update;
-        store(entries, update);
-        decision.after
+        self.swap(entries, true, direction, amount, minimum, clock)
     }
 
     // At most a maximum in, an exact amount out.
+    #[tactic(auto, unfolding(crate::specs::Calls::swap_base_output))]
     pub fn swap_base_output(
         self,
         entries: &mut [u64; RING_WORDS],
@@ -105,13 +121,11 @@ impl Pool {
     ) -> After
         ensures { done result entries.new ≡ swap_base_output self entries.old direction amount maximum clock }
     {
-        let decision = self.decide(entries, false, direction, amount, maximum, clock);
-        let update = decision.update;
-        store(entries, update);
-        decision.after
+        self.swap(entries, false, direction, amount, maximum, clock)
     }
 
     // A deposit with two maximums, or a withdrawal with the owner's LP and two minimums.
+    #[tactic(auto, unfolding(crate::specs::Calls::deposit, crate::specs::Calls::withdraw))]
     pub fn change(
         self,
         is_deposit: bool,
@@ -122,13 +136,11 @@ impl Pool {
     ) -> After
         ensures { result ≡ change_of is_deposit self lp.0 owned.0 limit0.0 limit1.0 }
     {
-        let charges = self.terms.charges;
-        let books = self.books;
         self.booked(decide_change(
             is_deposit,
-            charges,
+            self.terms.charges,
             self.status,
-            books,
+            self.books,
             lp,
             owned,
             limit0,
@@ -157,22 +169,25 @@ impl Pool {
     }
 
     // The creators are paid out of the vaults.
+    #[tactic(auto, unfolding(crate::specs::Calls::settlement))]
     pub fn settle_creator_fee(self, share: u64) -> After
         ensures { result ≡ settlement self share }
     {
-        let charges = self.terms.charges;
-        let books = self.books;
-        self.booked(decide_settlement(charges, books, share))
+        self.booked(decide_settlement(self.terms.charges, self.books, share))
     }
 
     // One bit of the status is set or cleared.
+    #[tactic(auto, unfolding(crate::specs::Calls::set_status))]
     pub fn set_status(self, bit: u64, flag: u64) -> After
         ensures { result ≡ set_status self bit flag }
     {
         let next = decide_status(self.status, bit, flag);
-        let receipt = next.receipt;
-        let mut pool = self;
-        pool.status = next.status;
-        After { pool, receipt }
+        After {
+            pool: Pool {
+                status: next.status,
+                ..self
+            },
+            receipt: next.receipt,
+        }
     }
 }
