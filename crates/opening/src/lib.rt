@@ -9,7 +9,7 @@ use accounting::{Books, FeeCounters};
 use charge::{Charged, Charges};
 use oracle::{Grid, OBSERVATION_NUM};
 use rates::{Rates, Terms};
-use receipt::{OPENING, Receipt, amounts_receipt, refusal_receipt};
+use receipt::{Kind, Receipt, amounts_receipt, refusal_receipt};
 use refusal::{Refusal, refuse_if};
 use root::isqrt;
 use wide::widening_mul;
@@ -157,7 +157,7 @@ fn open(opening: Opening) -> Result<OpeningAfter, Refusal>
         books: books_with(amount0, amount1, supply),
         terms: opened_terms(opening),
         grid,
-        receipt: amounts_receipt(OPENING, amount0, amount1, 0, 0, supply, charged),
+        receipt: amounts_receipt(Kind::Opening as u64, amount0, amount1, 0, 0, supply, charged),
     })
 }
 
