@@ -12,7 +12,7 @@ use refusal::Refusal;
 // So many LP tokens are locked at the start; the supply counts them. After `lock_lp_amount` of the original's instruction `initialize`.
 pub const LOCK_LP_AMOUNT: u64 = 100;
 
-#[derive(Clone, Copy)]
+#[derive(Clone, Copy, Default)]
 pub struct FeeCounters {
     pub protocol0: u64,
     pub protocol1: u64,
@@ -23,7 +23,7 @@ pub struct FeeCounters {
 }
 
 // What is booked. A vault is the whole balance of its token.
-#[derive(Clone, Copy)]
+#[derive(Clone, Copy, Default)]
 pub struct Books {
     pub vault0: u64,
     pub vault1: u64,

@@ -5,6 +5,7 @@ use mathlib.Core.Path.{◌≡◌, refl, sym, ap, ◌∙◌}
 use mathlib.Core.Bool.{Bool, true, false, true≢false}
 use mathlib.Core.List.{[], ◌∷◌, ◌++◌}
 use lib.ListN.{take, drop}
+use Rattle.std.specs.Prelude.{Ok}
 use Rattle.refusal.specs.Tests.{Tests, ◌then◌, first}
 use Rattle.refusal.proofs.Stops.{Passed, outcome_elim}
 use Rattle.rates.specs.Rates.{rate_limits}
@@ -37,7 +38,7 @@ module _ (s : State) (P : Ring → Entries → Type 0) where
   abbrev Updated : Type 0
   Updated =
       (e : Entry) (clock price0 price1 : ℕ) → outside s.pool.ring ≡ false
-      → let u = accepted_update s.pool.ring e clock price0 price1 in P (after_of s.pool.ring u).ring (stored_in s.entries u)
+      → let u = accepted_update s.pool.ring e clock price0 price1 in P (after_of u) (stored_in s.entries (Ok u))
 
   accepted : (c : Call) → P s.pool.ring s.entries → Updated → Passed (tests_of s c) → Here (accepted_of s c)
   unfolding decision accepted_swap

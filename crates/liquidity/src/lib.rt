@@ -10,7 +10,7 @@ ghost use Rattle.liquidity.specs.Stages.{front_tests, booked_deposit, deposit_re
 use accounting::{Books, LOCK_LP_AMOUNT};
 use charge::{Charged, Charges};
 use curve::constant_product::{LpTokens, TradingTokens};
-use receipt::{BooksAfter, DEPOSIT, WITHDRAW, amounts_receipt, refuse_books};
+use receipt::{BooksAfter, Kind, amounts_receipt, refuse_books};
 use refusal::{Refusal, refuse_if};
 use worth::worth_of;
 
@@ -66,7 +66,7 @@ fn book_deposit(
             fees: books.fees,
             supply,
         },
-        receipt: amounts_receipt(DEPOSIT, token0.0, token1.0, 0, 0, lp.0, charged),
+        receipt: amounts_receipt(Kind::Deposit as u64, token0.0, token1.0, 0, 0, lp.0, charged),
     })
 }
 
@@ -132,7 +132,7 @@ fn withdraw(
             fees: books.fees,
             supply,
         },
-        receipt: amounts_receipt(WITHDRAW, 0, 0, token0.0, token1.0, lp.0, received.charged),
+        receipt: amounts_receipt(Kind::Withdraw as u64, 0, 0, token0.0, token1.0, lp.0, received.charged),
     })
 }
 

@@ -2,14 +2,14 @@
 #![tactic(auto)]
 
 ghost use Rattle.std.specs.Prelude.{◌≡◌};
-ghost use Rattle.opening.specs.Opening.{out_of_range, books_with, opened_terms, zero_terms, refused_opening, opening_after};
+ghost use Rattle.opening.specs.Opening.{out_of_range, books_with, opened_terms, refused_opening, opening_after};
 ghost use Rattle.opening.specs.Stages.{opened};
 
-use accounting::{Books, FeeCounters};
+use accounting::Books;
 use charge::{Charged, Charges};
 use oracle::{Grid, OBSERVATION_NUM};
 use rates::{Rates, Terms};
-use receipt::{OPENING, Receipt, amounts_receipt, refusal_receipt};
+use receipt::{Kind, Receipt, amounts_receipt, refusal_receipt};
 use refusal::{Refusal, refuse_if};
 use root::isqrt;
 use wide::widening_mul;
@@ -40,7 +40,7 @@ pub struct Opening {
 }
 
 // What a pool begins with, and the receipt.
-#[derive(Clone, Copy)]
+#[derive(Clone, Copy, Default)]
 pub struct OpeningAfter {
     pub books: Books,
     pub terms: Terms,
@@ -56,39 +56,14 @@ fn out_of_range(least: u64, most: u64, n: u64) -> bool
 }
 
 // Counters start at 0.
-fn books_with(amount0: u64, amount1: u64, supply: u64) -> Books
-    ensures { result ≡ books_with amount0 amount1 supply }
+fn books_with(vault0: u64, vault1: u64, supply: u64) -> Books
+    ensures { result ≡ books_with vault0 vault1 supply }
 {
     Books {
-        vault0: amount0,
-        vault1: amount1,
-        fees: FeeCounters {
-            protocol0: 0,
-            protocol1: 0,
-            fund0: 0,
-            fund1: 0,
-            creator0: 0,
-            creator1: 0,
-        },
+        vault0,
+        vault1,
         supply,
-    }
-}
-
-fn zero_terms() -> Terms
-    ensures { result ≡ zero_terms }
-{
-    Terms {
-        rates: Rates {
-            trade: 0,
-            protocol: 0,
-            fund: 0,
-            creator: 0,
-            share: 0,
-        },
-        charges: Charges::default(),
-        fee_model: 0,
-        open_time: 0,
-        enabled: false,
+        ..Books::default()
     }
 }
 
@@ -98,13 +73,8 @@ pub fn refuse_opening(number: u64) -> OpeningAfter
     ensures { result ≡ refused_opening number }
 {
     OpeningAfter {
-        books: books_with(0, 0, 0),
-        terms: zero_terms(),
-        grid: Grid {
-            spacing: 0,
-            length: 0,
-        },
         receipt: refusal_receipt(number),
+        ..OpeningAfter::default()
     }
 }
 
@@ -157,7 +127,15 @@ fn open(opening: Opening) -> Result<OpeningAfter, Refusal>
         books: books_with(amount0, amount1, supply),
         terms: opened_terms(opening),
         grid,
-        receipt: amounts_receipt(OPENING, amount0, amount1, 0, 0, supply, charged),
+        receipt: amounts_receipt(
+            Kind::Opening as u64,
+            amount0,
+            amount1,
+            0,
+            0,
+            supply,
+            charged,
+        ),
     })
 }
 

@@ -19,7 +19,7 @@ pub const RING_WORDS: usize = 500;
 
 // Where the entries stand: under `spacing` seconds since its clock the newest one is overwritten, and after `length` of them the first is written
 // again.
-#[derive(Clone, Copy)]
+#[derive(Clone, Copy, Default)]
 pub struct Grid {
     pub spacing: u64,
     pub length: u64,

@@ -11,7 +11,7 @@ use fees::FEE_RATE_DENOMINATOR_VALUE;
 use refusal::{Refusal, refuse_if};
 
 // A pool's rates, in millionths.
-#[derive(Clone, Copy)]
+#[derive(Clone, Copy, Default)]
 pub struct Rates {
     pub trade: u64,
     pub protocol: u64,
@@ -21,7 +21,7 @@ pub struct Rates {
 }
 
 // What an opening sets for good. The flag stands last, so that all other fields are copied as whole numbers.
-#[derive(Clone, Copy)]
+#[derive(Clone, Copy, Default)]
 pub struct Terms {
     pub rates: Rates,
     pub charges: Charges,

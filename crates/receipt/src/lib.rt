@@ -2,28 +2,50 @@
 #![tactic(auto)]
 
 ghost use Rattle.std.specs.Prelude.{◌≡◌};
+ghost use Rattle.receipt.specs.Kind.{kind_at};
 ghost use Rattle.receipt.specs.Receipt.{refusal, refused_books, amounts};
 
 use accounting::Books;
 use charge::Charged;
 
-// The kinds of calls, numbered as the rows of the day sheet are. A receipt holds its kind and its number as plain numbers, since its words over plain
-// memory, which the C interface shows, are these.
-pub const OPENING: u64 = 1;
+// The kinds of calls, numbered as the rows of the day sheet are.
+#[derive(Clone, Copy, Debug, PartialEq, Eq)]
+pub enum Kind {
+    Opening = 1,
+    SwapBaseInput = 2,
+    SwapBaseOutput = 3,
+    Deposit = 4,
+    Withdraw = 5,
+    SettleCreatorFee = 6,
+    SetStatus = 7,
+}
 
-pub const SWAP_BASE_INPUT: u64 = 2;
+// A number that no kind of call has.
+#[derive(Clone, Copy, Debug, PartialEq, Eq)]
+pub struct UnknownKind(pub u64);
 
-pub const SWAP_BASE_OUTPUT: u64 = 3;
+impl TryFrom<u64> for Kind {
+    type Error = UnknownKind;
 
-pub const DEPOSIT: u64 = 4;
+    ghost try_from_gives = { λ number kind. kind ≡ kind_at number };
 
-pub const WITHDRAW: u64 = 5;
+    #[tactic(auto, unfolding(crate::specs::Kind::kind_at))]
+    fn try_from(number: u64) -> Result<Kind, UnknownKind> {
+        match number {
+            1 => Ok(Kind::Opening),
+            2 => Ok(Kind::SwapBaseInput),
+            3 => Ok(Kind::SwapBaseOutput),
+            4 => Ok(Kind::Deposit),
+            5 => Ok(Kind::Withdraw),
+            6 => Ok(Kind::SettleCreatorFee),
+            7 => Ok(Kind::SetStatus),
+            _ => Err(UnknownKind(number)),
+        }
+    }
+}
 
-pub const SETTLE_CREATOR_FEE: u64 = 6;
-
-pub const SET_STATUS: u64 = 7;
-
-// An accepted call's number is 0. A refused call's receipt holds its number and zeros. Each part is zeros where it has no meaning.
+// An accepted call's number is 0. A refused call's receipt holds its number and zeros. Each part is zeros where it has no meaning. Number and kind are
+// plain numbers: they are words over plain memory, which the C interface shows, and may be any there.
 #[derive(Clone, Copy, Default)]
 pub struct Receipt {
     pub number: u64,

@@ -1,6 +1,6 @@
 -- A stage's tests taken one at a time.
 -- Assumes nothing.
-use Rattle.std.proofs.Common.{◌≡◌, refl, ℕ, ◌+◌, ◌<◌, ◌≤◌, Bool, cond, Result, Ok, Err, List, length, drop, get_or, drop-cons}
+use Rattle.std.proofs.Common.{◌≡◌, refl, ℕ, ◌+◌, ◌<◌, ◌≤◌, Bool, cond, Ok, Err, List, length, drop, get_or, drop-cons}
 use Rattle.std.proofs.Math.Numerals.{add-one}
 use Rattle.std.proofs.lemmas.List.{drop_all}
 use Rattle.refusal.specs.Tests.{tested_by}

@@ -2,3 +2,4 @@ pub mod Called
 pub mod Seated
 pub mod Changed
 pub mod Opened
+pub mod Written

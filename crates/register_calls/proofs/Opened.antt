@@ -6,8 +6,10 @@ use mathlib.Core.List.{List}
 use native.Mathlib.Omega.{arith}
 use lib.ListN.{length, get_or}
 use borrow.Author.Tests.{eqb-false}
-use Rattle.refusal.specs.Tests.{first}
-use Rattle.refusal.proofs.Stops.{Passed, first_passed}
+use Rattle.std.specs.Prelude.{Ok, Err}
+use Rattle.refusal.specs.Tests.{tested}
+use Rattle.refusal.proofs.Stops.{Passed}
+use Rattle.refusal.proofs.Stages.{stage_passed, tested_is}
 use Rattle.accounting.specs.Locked.{lock_lp_amount}
 use Rattle.receipt.specs.Receipt.{refusal}
 use Rattle.register.specs.Changes.{register_tests, with_opener}
@@ -20,19 +22,21 @@ use Rattle.memory.specs.Memory.{Memory, memory}
 use Rattle.memory.specs.Steps.{opened_with}
 use Rattle.register_calls.specs.Lent.{register_memory, untouched_with}
 use Rattle.register_calls.specs.Steps.{register_opened_for}
+use Rattle.register_calls.proofs.Seated.{number_came}
 use Rattle.register_calls.proofs.Called.{with_list, opening_fault, opening_refused, opening_given, opening_supply}
 
-module _ (p e r hs : List ℕ) (o : Opening) (holder k : ℕ) (tested : k ≡ first (register_tests holder (entries_of hs))) where
+module _ (p e r hs : List ℕ) (o : Opening) (holder : ℕ) where
   pub fault_left :
-      (k ≡ 0 → ⊥) → (m : ℕ) (r'' : List ℕ) → (m ≡ k) × (r'' ≡ receipt_words (refusal k))
+      (k : ℕ) → tested (register_tests holder (entries_of hs)) ≡ Err k → (m : ℕ) (r'' : List ℕ) → (m ≡ k) × (r'' ≡ receipt_words (refusal k))
       → register_memory m p e r'' hs ≡ register_opened_for p e r hs o holder
-  unfolding untouched_with
-  fault_left f m r'' refused = (λ t. register_memory (refused.0 t) p e (refused.1 t) hs) ∙ opening_fault p e r hs o holder k tested f
+  unfolding untouched_with register_tests
+  fault_left k t m r'' refused =
+      let why = number_came tt (register_tests holder (entries_of hs)) k refl (sym (tested_is (register_tests holder (entries_of hs))) ∙ t) in
+      (λ t. register_memory (refused.0 t) p e (refused.1 t) hs) ∙ opening_fault p e r hs o holder k why.0 why.1
 
-  module _ (y : k ≡ 0) where
+  module _ (y : tested (register_tests holder (entries_of hs)) ≡ Ok tt) where
     passed : Passed (register_tests holder (entries_of hs))
-    unfolding register_tests
-    passed = first_passed (register_tests holder (entries_of hs)) refl (sym y ∙ tested)
+    passed = stage_passed tt (register_tests holder (entries_of hs)) (sym (tested_is (register_tests holder (entries_of hs))) ∙ y)
 
     pub some_entry : 0 < length (entries_of hs)
     unfolding register_tests

@@ -1,8 +1,9 @@
 // Opening, deposit and withdrawal with a register (document 02 (g)), over plain memory: its list is lent beside record, ring and receipt, two
 // numbers an entry. A call returns 0 and writes what it gives, or it returns its refusal's number and writes nothing but a receipt of it.
+// What is lent stays apart and a number is what is returned, as at the C interface.
 #![tactic(auto)]
 
-ghost use Rattle.std.specs.Prelude.{◌≡◌, ◌<◌, length, set, replicate};
+ghost use Rattle.std.specs.Prelude.{◌≡◌, ◌<◌, length, set, Ok};
 ghost use Rattle.register.specs.Changes.{with_opener};
 ghost use Rattle.seats.specs.Stages.{seat_of};
 ghost use Rattle.register.specs.Numbers.{entries_of, numbers_of};
@@ -15,37 +16,28 @@ use memory::record::refuse;
 use opening::Opening;
 use oracle::RING_WORDS;
 use refusal::ACCEPTED;
-use register::{Holder, register_number};
-use seats::{Change, Seat, Seating, seat_of};
+use register::{Holder, check_register};
+use seats::{Change, Seat, seat_of};
 use words::{POOL_WORDS, RECEIPT_WORDS, SUPPLY_AT};
 
-// Writes one entry of the list.
-fn enter(holders: &mut [u64], at: usize, entry: Holder)
-    requires { at < length (entries_of holders.old) }
-    ensures { holders.new ≡ numbers_of (set (entries_of holders.old) at entry) }
+// Writes the one entry that changes.
+#[tactic(auto, using(crate::proofs::Written::entered_at))]
+fn enter(holders: &mut [u64], change: Change)
+    requires { change.place < length (entries_of holders.old) }
+    ensures { holders.new ≡ numbers_of (set (entries_of holders.old) change.place change.entry) }
 {
-    let first = at + at;
-    holders[first] = entry.number;
-    holders[first + 1] = entry.balance;
-}
-
-// Sets every number to 0.
-fn clear(numbers: &mut [u64])
-    ensures { numbers.new ≡ replicate (length numbers.old) 0 }
-{
-    let mut at = 0;
-    while at < numbers.len() {
-        numbers[at] = 0;
-        at += 1;
-    }
+    let first = change.place + change.place;
+    holders[first] = change.entry.number;
+    holders[first + 1] = change.entry.balance;
 }
 
 // The list is set to zeros, and the opener is entered first.
+#[tactic(auto, using(crate::proofs::Written::opener_first))]
 fn enter_opener(holders: &mut [u64], opener: Holder)
     requires { 0 < length (entries_of holders.old) }
     ensures { holders.new ≡ numbers_of (with_opener opener (entries_of holders.old)) }
 {
-    clear(holders);
+    holders.fill(0);
     holders[0] = opener.number;
     holders[1] = opener.balance;
 }
@@ -61,9 +53,8 @@ pub fn open_by(
 ) -> u64
     ensures { register_memory result pool.new ring.new receipt.new holders.new ≡ register_opened_for pool.old ring.old receipt.old holders.old opening holder }
 {
-    let fault = register_number(holders, holder);
-    if fault != ACCEPTED {
-        return refuse(receipt, fault);
+    if let Err(fault) = check_register(holders, holder) {
+        return refuse(receipt, fault.number());
     }
     let number = open_on(pool, ring, receipt, opening);
     if number != ACCEPTED {
@@ -90,12 +81,20 @@ fn change_at(
     limit0: u64,
     limit1: u64,
 ) -> u64
-    requires { seat_of seat.holder (entries_of holders.old) ≡ Seating.At seat }
+    requires { seat_of seat.holder (entries_of holders.old) ≡ Ok seat }
     ensures { register_memory result pool.new ring.new receipt.new holders.new ≡ register_called_on pool.old ring.old receipt.old holders.old (registered_call is_deposit seat.holder lp limit0 limit1) }
 {
     let owned = seat.balance;
     match seat.change(is_deposit, lp) {
-        Change::Refused(last) => {
+        Ok(change) => {
+            let number = change_on(pool, ring, receipt, is_deposit, lp, owned, limit0, limit1);
+            if number != ACCEPTED {
+                return number;
+            }
+            enter(holders, change);
+            ACCEPTED
+        }
+        Err(last) => {
             let mut trial = *pool;
             let tried = change_on(
                 &mut trial, ring, receipt, is_deposit, lp, owned, limit0, limit1,
@@ -103,20 +102,13 @@ fn change_at(
             if tried != ACCEPTED {
                 return tried;
             }
-            refuse(receipt, last)
-        }
-        Change::Entry(at, entry) => {
-            let number = change_on(pool, ring, receipt, is_deposit, lp, owned, limit0, limit1);
-            if number != ACCEPTED {
-                return number;
-            }
-            enter(holders, at, entry);
-            ACCEPTED
+            refuse(receipt, last.number())
         }
     }
 }
 
 // A deposit with two maximums, or a withdrawal with two minimums, by a holder: the LP that he owns is his balance.
+#[tactic(auto, using(crate::proofs::Changed::seat_holder, crate::proofs::Changed::seat_stands))]
 pub fn change_by(
     pool: &mut [u64; POOL_WORDS],
     ring: &mut [u64; RING_WORDS],
@@ -131,22 +123,23 @@ pub fn change_by(
     ensures { register_memory result pool.new ring.new receipt.new holders.new ≡ register_called_on pool.old ring.old receipt.old holders.old (registered_call is_deposit holder lp limit0 limit1) }
 {
     match seat_of(holders, holder) {
-        Seating::Refused(fault) => refuse(receipt, fault),
-        Seating::At(seat) => change_at(
+        Ok(seat) => change_at(
             pool, ring, receipt, holders, seat, is_deposit, lp, limit0, limit1,
         ),
+        Err(fault) => refuse(receipt, fault.number()),
     }
 }
 
 // One holder's balance; 3 where the list is no register, or the holder is 0.
+#[tactic(auto, using(crate::proofs::Seated::balance_refused, crate::proofs::Seated::balance_read))]
 pub fn balance_on(holders: &[u64], holder: u64, balance: &mut [u64; 1]) -> u64
     ensures { balance_memory result balance.new ≡ balance_on holders.now holder balance.old }
 {
     match seat_of(holders, holder) {
-        Seating::Refused(fault) => fault,
-        Seating::At(seat) => {
+        Ok(seat) => {
             *balance = [seat.balance];
             ACCEPTED
         }
+        Err(fault) => fault.number(),
     }
 }

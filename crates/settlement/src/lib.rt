@@ -10,7 +10,7 @@ ghost use Rattle.settlement.specs.Stages.{settled_at};
 use accounting::{Books, FeeCounters};
 use charge::{Charged, Charges};
 use fees::FEE_RATE_DENOMINATOR_VALUE;
-use receipt::{BooksAfter, Paid, Receipt, SETTLE_CREATOR_FEE, Shared, refuse_books};
+use receipt::{BooksAfter, Kind, Paid, Receipt, Shared, refuse_books};
 use refusal::Refusal;
 use share::share_floor;
 
@@ -20,7 +20,7 @@ fn settlement_receipt(out0: u64, out1: u64, shared0: u64, shared1: u64, charged:
     ensures { result ≡ settlement_receipt out0 out1 shared0 shared1 charged }
 {
     Receipt {
-        kind: SETTLE_CREATOR_FEE,
+        kind: Kind::SettleCreatorFee as u64,
         paid: Paid {
             out0,
             out1,

@@ -6,7 +6,7 @@ ghost use Rattle.status.specs.Status.{flagged, status_after};
 ghost use Rattle.status.specs.Stages.{changed_status};
 
 use charge::Charged;
-use receipt::{Receipt, SET_STATUS, amounts_receipt, refusal_receipt};
+use receipt::{Kind, Receipt, amounts_receipt, refusal_receipt};
 use refusal::{Refusal, refuse_if};
 
 // The status after a change, and the receipt.
@@ -50,7 +50,7 @@ pub fn decide(status: u64, bit: u64, flag: u64) -> StatusAfter
         },
         Ok(status) => StatusAfter {
             status,
-            receipt: amounts_receipt(SET_STATUS, 0, 0, 0, 0, 0, Charged::default()),
+            receipt: amounts_receipt(Kind::SetStatus as u64, 0, 0, 0, 0, 0, Charged::default()),
         },
     }
 }

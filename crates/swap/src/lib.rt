@@ -13,7 +13,7 @@ use lending::booked;
 use oracle::{RING_WORDS, Ring, Update};
 use quotes::{Quote, quote_swap};
 use rates::{Terms, is_creator_fee_on_input};
-use receipt::{Paid, Receipt, SWAP_BASE_INPUT, SWAP_BASE_OUTPUT, Trade, refusal_receipt};
+use receipt::{Kind, Paid, Receipt, Trade, refusal_receipt};
 use refusal::Refusal;
 
 // What a swap comes to: books and head after it, its receipt, and what the ring's entries get. A refused swap's books and head are as they were.
@@ -50,7 +50,7 @@ impl Swap {
     {
         let s = self.quote.result;
         Receipt {
-            kind: of_token(self.by_input, SWAP_BASE_INPUT, SWAP_BASE_OUTPUT),
+            kind: of_token(self.by_input, Kind::SwapBaseInput as u64, Kind::SwapBaseOutput as u64),
             paid: Paid {
                 in0: of_token(self.zero_in, s.input, 0),
                 in1: of_token(self.zero_in, 0, s.input),

@@ -1,5 +1,5 @@
 -- `refusal::refuse_if` meets its contract.
-use Rattle.std.proofs.Common.{refl, arith, ◌∙◌, sym}
+use Rattle.std.proofs.Common.{refl, arith}
 use Rattle.refusal.proofs.OneByOne.{tested_from, tested_past}
 use Rattle.refusal.proofs.refuse_if.Goals as goal
 

@@ -22,17 +22,17 @@ enter-requires c =
     omega (
       arith,
       entry_in a.pool.now a.ring.now a.receipt.now a.holders.now a.seat a.is_deposit a.lp a.limit0 a.limit1 c.requires _ _ _ _
-          c.change_on-number.ensures c.if-number-ne-ACCEPTED.false _ _ (sym c.change.ensures ∙ c.in-Entry.is),
+          c.change_on-number.ensures c.if-number-ne-ACCEPTED.false _ (sym c.change.ensures ∙ c.in-Ok.is),
     )
 
 pub returns-else-tried-ne-ACCEPTED : goal.returns-else-tried-ne-ACCEPTED
 returns-else-tried-ne-ACCEPTED c =
     let a = c.args in
     last_at a.pool.now a.ring.now a.receipt.now a.holders.now a.seat a.is_deposit a.lp a.limit0 a.limit1 c.requires _ _ _ _
-    c.change_on-tried.ensures c.if-tried-ne-ACCEPTED.false _ _ _ (sym c.change.ensures ∙ c.in-Refused.is) c.refuse.ensures
+    c.change_on-tried.ensures c.if-tried-ne-ACCEPTED.false _ _ _ (sym c.change.ensures ∙ c.in-Err.is) (rw c.number.ensures at c.refuse.ensures)
 
 pub returns-else-number-ne-ACCEPTED : goal.returns-else-number-ne-ACCEPTED
 returns-else-number-ne-ACCEPTED c =
     let a = c.args in
     accepted_at_lem a.pool.now a.ring.now a.receipt.now a.holders.now a.seat a.is_deposit a.lp a.limit0 a.limit1 c.requires _ _ _ _
-    c.change_on-number.ensures c.if-number-ne-ACCEPTED.false _ _ (sym c.change.ensures ∙ c.in-Entry.is) _ c.enter.ensures
+    c.change_on-number.ensures c.if-number-ne-ACCEPTED.false _ (sym c.change.ensures ∙ c.in-Ok.is) _ c.enter.ensures
