@@ -15,6 +15,8 @@ pub struct Divided<Q> {
     pub remainder: u64,
 }
 
+// A divisor is a number above 0 by what each function asks: a type of its own for it would be made and opened at each call, and is no plainer.
+
 // A u64 by a u64, in one machine division: what the quotient does not take is the remainder.
 pub fn div_rem_short(n: u64, d: u64) -> Divided<u64>
     requires { 0 < d }
@@ -47,12 +49,12 @@ fn digit(high: u64, low: u64, d: u64) -> Divided<u64>
     let rest = by_upper.remainder * 0x1_0000_0000 + low;
     let taken = estimate * lower;
     let one = less(rest, taken);
-    let left = std::num::wrapping_sub_u64(rest, taken);
-    let once = std::num::wrapping_add_u64(left, one * d);
+    let left = rest.wrapping_sub(taken);
+    let once = left.wrapping_add(one * d);
     let two = 1 - less(once, d);
     Divided {
         quotient: estimate - one - two,
-        remainder: std::num::wrapping_add_u64(once, two * d),
+        remainder: once.wrapping_add(two * d),
     }
 }
 
@@ -61,7 +63,7 @@ fn norm_shift(d: u64) -> u32
     requires { 0 < d }
     ensures { (2 ^ 63 ≤ d * 2 ^ result) × (d * 2 ^ result < 2 ^ 64) × (result < 64) }
 {
-    u64::leading_zeros(d)
+    d.leading_zeros()
 }
 
 // The quotient and the remainder, where the quotient fits a u64: one machine division, or two digits.

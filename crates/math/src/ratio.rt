@@ -1,4 +1,5 @@
-// a * b / d on u64, with no loss: rounded down, rounded up, with the remainder, and by a divisor of 65 bits.
+// a * b / d on u64, with no loss: rounded down, rounded up, with the remainder, and by a divisor of 65 bits. The three numbers are plain parameters
+// throughout: a struct of them would be made for one call each.
 ghost use Rattle.std.specs.Prelude.{◌≡◌, ◌+◌, ◌*◌, ◌/◌, ◌<◌};
 ghost use Rattle.wide.specs.Value.{value};
 ghost use Rattle.math.specs.Ratio.{parts_of, floor_of, ceil_of};

@@ -16,7 +16,7 @@ fn isqrt_u64(x: u64) -> u64
     if x == 0 {
         return 0;
     }
-    let mut guess = 1u64 << ((65 - u64::leading_zeros(x)) / 2);
+    let mut guess = 1u64 << ((65 - x.leading_zeros()) / 2);
     let mut quotient = x / guess;
     while quotient < guess {
         guess = (guess + quotient) / 2;

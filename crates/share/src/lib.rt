@@ -15,6 +15,8 @@ fn is_short(amount: u64, whole: u64) -> bool
     amount < 0x1000_0000_0000 && whole <= 0x10_0000
 }
 
+// What is asked of rate and whole stands at each function below: a struct of the two would be made for one call each, and is no plainer.
+
 // (amount * rate + more) / whole: rounded down where no more is added, and up where one less than the whole is.
 #[inline(always)]
 #[tactic(auto, using(crate::proofs::Shares::shared_is, crate::proofs::Shares::shared_fits))]

@@ -32,10 +32,10 @@ pub fn widening_mul(a: u64, b: u64) -> U128
     let p11 = a1 * b1;
     let middle = p10 + (p00 >> 32);
     let lower = p01 + middle % 0x1_0000_0000;
-    let cross = std::num::wrapping_add_u64(p01, p10);
+    let cross = p01.wrapping_add(p10);
     U128 {
         high: p11 + (middle >> 32) + (lower >> 32),
-        low: std::num::wrapping_add_u64(cross << 32, p00),
+        low: (cross << 32).wrapping_add(p00),
     }
 }
 
@@ -43,11 +43,11 @@ pub fn widening_mul(a: u64, b: u64) -> U128
 pub fn wrapping_add(a: U128, b: U128) -> U128
     ensures { result ≡ u128_of (value a + value b) }
 {
-    let low = std::num::wrapping_add_u64(a.low, b.low);
+    let low = a.low.wrapping_add(b.low);
     let carry = u64::from(low < a.low);
-    let high = std::num::wrapping_add_u64(a.high, b.high);
+    let high = a.high.wrapping_add(b.high);
     U128 {
-        high: std::num::wrapping_add_u64(high, carry),
+        high: high.wrapping_add(carry),
         low,
     }
 }
