@@ -59,6 +59,7 @@ fn book_deposit(
         .checked_add(token1.0)
         .ok_or(Refusal::MATH_OVERFLOW)?;
     let supply = books.supply.checked_add(lp.0).ok_or(Refusal::PANIC)?;
+    let kind = Kind::Deposit as u64;
     Ok(BooksAfter {
         books: Books {
             vault0,
@@ -66,7 +67,7 @@ fn book_deposit(
             fees: books.fees,
             supply,
         },
-        receipt: amounts_receipt(Kind::Deposit as u64, token0.0, token1.0, 0, 0, lp.0, charged),
+        receipt: amounts_receipt(kind, token0.0, token1.0, 0, 0, lp.0, charged),
     })
 }
 
@@ -125,6 +126,7 @@ fn withdraw(
     if supply < LOCK_LP_AMOUNT {
         return Err(Refusal::LEFT_LP_AMOUNT_TOO_LESS);
     }
+    let kind = Kind::Withdraw as u64;
     Ok(BooksAfter {
         books: Books {
             vault0: books.vault0 - token0.0,
@@ -132,7 +134,7 @@ fn withdraw(
             fees: books.fees,
             supply,
         },
-        receipt: amounts_receipt(Kind::Withdraw as u64, 0, 0, token0.0, token1.0, lp.0, received.charged),
+        receipt: amounts_receipt(kind, 0, 0, token0.0, token1.0, lp.0, received.charged),
     })
 }
 

@@ -122,20 +122,13 @@ fn open(opening: Opening) -> Result<OpeningAfter, Refusal>
     if supply < LEAST_SUPPLY {
         return Err(Refusal::INIT_LP_AMOUNT_TOO_LESS);
     }
+    let kind = Kind::Opening as u64;
     let charged = Charged::default();
     Ok(OpeningAfter {
         books: books_with(amount0, amount1, supply),
         terms: opened_terms(opening),
         grid,
-        receipt: amounts_receipt(
-            Kind::Opening as u64,
-            amount0,
-            amount1,
-            0,
-            0,
-            supply,
-            charged,
-        ),
+        receipt: amounts_receipt(kind, amount0, amount1, 0, 0, supply, charged),
     })
 }
 

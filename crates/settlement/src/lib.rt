@@ -43,24 +43,14 @@ fn settle(charges: Charges, books: Books, share: u64) -> Result<BooksAfter, Refu
     let fees = books.fees;
     let shared0 = share_floor(fees.creator0, share, FEE_RATE_DENOMINATOR_VALUE);
     let shared1 = share_floor(fees.creator1, share, FEE_RATE_DENOMINATOR_VALUE);
-    let protocol0 = fees
-        .protocol0
-        .checked_add(shared0)
-        .ok_or(Refusal::MATH_OVERFLOW)?;
-    let protocol1 = fees
-        .protocol1
-        .checked_add(shared1)
-        .ok_or(Refusal::MATH_OVERFLOW)?;
+    let past = Refusal::MATH_OVERFLOW;
+    let protocol0 = fees.protocol0.checked_add(shared0).ok_or(past)?;
+    let protocol1 = fees.protocol1.checked_add(shared1).ok_or(past)?;
     let out0 = fees.creator0 - shared0;
     let out1 = fees.creator1 - shared1;
-    let vault0 = books
-        .vault0
-        .checked_sub(out0)
-        .ok_or(Refusal::INSUFFICIENT_VAULT)?;
-    let vault1 = books
-        .vault1
-        .checked_sub(out1)
-        .ok_or(Refusal::INSUFFICIENT_VAULT)?;
+    let too_small = Refusal::INSUFFICIENT_VAULT;
+    let vault0 = books.vault0.checked_sub(out0).ok_or(too_small)?;
+    let vault1 = books.vault1.checked_sub(out1).ok_or(too_small)?;
     let charged = charges.charges_on(out0, out1);
     Ok(BooksAfter {
         books: Books {
