@@ -1,9 +1,11 @@
 // Each call, an opening and the nets, over plain memory.
+#![tactic(auto, unfolding(crate::specs::Memory::called_on, crate::specs::Memory::record_tests, crate::specs::Memory::stored, crate::specs::Memory::untouched, crate::specs::Memory::nets_on, crate::specs::Memory::stored_nets, crate::specs::Steps::pool_answer, crate::specs::Steps::given_on, refusal::specs::Tests::first, refusal::specs::Tests::outcome, refusal::specs::Tests::tested, calls::specs::Next::next))]
+
 ghost use Rattle.std.specs.Prelude.{◌≡◌};
 ghost use Rattle.memory.specs.Memory.{memory, called_on, nets_memory, nets_on};
 ghost use Rattle.memory.specs.Steps.{swap_call, change_call, opened_with};
 
-use crate::record::{give, pool_in, record_number, refuse};
+use crate::record::{call_on, check_record, give, pool_in, refuse};
 use accounting::Nets;
 use calls::Call;
 use curve::constant_product::{LpTokens, TradingTokens};
@@ -13,7 +15,7 @@ use pool::state::Pool;
 use refusal::ACCEPTED;
 use words::{POOL_WORDS, RECEIPT_WORDS};
 
-// Either swap. The ring's entries are stored last; a refused swap has none to store.
+// Either swap, which is no `call_on`: it gives more than that writes. The ring's entries are stored last; a refused swap has none to store.
 pub fn swap_on(
     pool: &mut [u64; POOL_WORDS],
     ring: &mut [u64; RING_WORDS],
@@ -26,15 +28,12 @@ pub fn swap_on(
 ) -> u64
     ensures { memory result pool.new ring.new receipt.new ≡ called_on pool.old ring.old receipt.old (swap_call by_input direction amount limit clock) }
 {
-    let w = *pool;
-    let unreadable = record_number(w);
-    if unreadable != ACCEPTED {
-        return refuse(receipt, unreadable);
+    if let Err(refusal) = check_record(pool) {
+        return refuse(receipt, refusal.number());
     }
-    let decision = pool_in(w).decide(ring, by_input, direction, amount, limit, clock);
-    let update = decision.update;
+    let decision = pool_in(*pool).decide(ring, by_input, direction, amount, limit, clock);
     let number = give(pool, receipt, decision.after);
-    store(ring, update);
+    store(ring, decision.update);
     number
 }
 
@@ -51,19 +50,15 @@ pub fn change_on(
 ) -> u64
     ensures { memory result pool.new ring.new receipt.new ≡ called_on pool.old ring.old receipt.old (change_call is_deposit lp owned limit0 limit1) }
 {
-    let w = *pool;
-    let unreadable = record_number(w);
-    if unreadable != ACCEPTED {
-        return refuse(receipt, unreadable);
-    }
-    let after = pool_in(w).change(
-        is_deposit,
-        LpTokens(lp),
-        LpTokens(owned),
-        TradingTokens(limit0),
-        TradingTokens(limit1),
-    );
-    give(pool, receipt, after)
+    call_on(pool, receipt, |p| {
+        p.change(
+            is_deposit,
+            LpTokens(lp),
+            LpTokens(owned),
+            TradingTokens(limit0),
+            TradingTokens(limit1),
+        )
+    })
 }
 
 // The creator counters are paid out, the shared part apart.
@@ -75,13 +70,7 @@ pub fn settle_on(
 ) -> u64
     ensures { memory result pool.new ring.new receipt.new ≡ called_on pool.old ring.old receipt.old (Call.Settle share) }
 {
-    let w = *pool;
-    let unreadable = record_number(w);
-    if unreadable != ACCEPTED {
-        return refuse(receipt, unreadable);
-    }
-    let after = pool_in(w).settle_creator_fee(share);
-    give(pool, receipt, after)
+    call_on(pool, receipt, |p| p.settle_creator_fee(share))
 }
 
 // One bit of the status is set or cleared.
@@ -94,13 +83,7 @@ pub fn set_status_on(
 ) -> u64
     ensures { memory result pool.new ring.new receipt.new ≡ called_on pool.old ring.old receipt.old (Call.SetStatus bit flag) }
 {
-    let w = *pool;
-    let unreadable = record_number(w);
-    if unreadable != ACCEPTED {
-        return refuse(receipt, unreadable);
-    }
-    let after = pool_in(w).set_status(bit, flag);
-    give(pool, receipt, after)
+    call_on(pool, receipt, |p| p.set_status(bit, flag))
 }
 
 // A new pool, whatever the memory held.
@@ -115,10 +98,9 @@ pub fn open_on(
     let opened = Pool::open(opening);
     let entries = opened.entries;
     let number = give(pool, receipt, opened.after);
-    if number != ACCEPTED {
-        return number;
+    if number == ACCEPTED {
+        *ring = entries;
     }
-    *ring = entries;
     number
 }
 
@@ -126,16 +108,14 @@ pub fn open_on(
 pub fn nets_on(pool: &[u64; POOL_WORDS], nets: &mut [u64; 2]) -> u64
     ensures { nets_memory result nets.new ≡ nets_on pool.now nets.old }
 {
-    let w = *pool;
-    let unreadable = record_number(w);
-    if unreadable != ACCEPTED {
-        return unreadable;
+    if let Err(refusal) = check_record(pool) {
+        return refusal.number();
     }
-    match pool_in(w).nets() {
-        Nets::Of(net0, net1) => {
+    match pool_in(*pool).nets() {
+        Ok(Nets { net0, net1 }) => {
             *nets = [net0, net1];
             ACCEPTED
         }
-        Nets::Refused(number) => number,
+        Err(refusal) => refusal.number(),
     }
 }

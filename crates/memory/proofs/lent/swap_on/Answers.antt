@@ -1,17 +1,17 @@
 -- `memory::lent::swap_on` meets its contract.
-use Rattle.memory.specs.Steps.{swap_call}
-use Rattle.memory.proofs.Stores.{no_record, swap_given}
+use Rattle.std.proofs.Common.{rules, ◌≡◌}
+use Rattle.refusal.specs.Tests.{first, tested}
+use Rattle.memory.specs.Memory.{record_tests}
+use Rattle.memory.proofs.Stores.{swap_left}
+use Rattle.memory.proofs.lent.swap_on.Goals.{After-store}
 use Rattle.memory.proofs.lent.swap_on.Goals as goal
 
-pub returns-then-unreadable-ne-ACCEPTED : goal.returns-then-unreadable-ne-ACCEPTED
-returns-then-unreadable-ne-ACCEPTED c =
-    let a = c.args in
-    no_record a.pool.now a.ring.now a.receipt.now (swap_call a.by_input a.direction a.amount a.limit a.clock)
-    c.record_number-unreadable.result c.record_number-unreadable.ensures.0 c.if-unreadable-ne-ACCEPTED.true c.refuse.ensures
+passed : (c : After-store) → first (record_tests c.args.pool.now) ≡ 0
+unfolding record_tests tested first
+passed c = search rules
 
 pub returns : goal.returns
 returns c =
     let a = c.args in
-    swap_given a.pool.now a.ring.now a.receipt.now a.by_input a.direction a.amount a.limit a.clock
-    c.record_number-unreadable.result c.record_number-unreadable.ensures.0 c.if-unreadable-ne-ACCEPTED.false c.decide-decision.result
+    swap_left a.pool.now a.ring.now a.receipt.now a.by_input a.direction a.amount a.limit a.clock (passed c)
     c.pool_in.ensures c.decide-decision.ensures c.store.ensures c.give-number.ensures
