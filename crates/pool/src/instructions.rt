@@ -1,5 +1,7 @@
 // The calls, under the names of the original's instructions. None of them has a branch: the crates `swap`, `liquidity`, `settlement`,
 // `status` and `opening` decide, and a refused call's answer repeats the old values.
+#![tactic(auto, unfolding(crate::specs::Calls::zero_pool, crate::specs::Calls::zero_entries, crate::specs::Calls::opening, crate::specs::Calls::decision_of, crate::specs::Calls::swap_base_input, crate::specs::Calls::swap_base_output, crate::specs::Calls::deposit, crate::specs::Calls::withdraw, crate::specs::Calls::settlement, crate::specs::Calls::set_status, opening::specs::Opening::refused_opening))]
+
 ghost use Rattle.std.specs.Prelude.{◌≡◌};
 ghost use Rattle.pool.specs.State.{done, done_of};
 ghost use Rattle.pool.specs.Calls.{zero_pool, opening as opening_of, decision_of, swap_base_input, swap_base_output, change_of, deposit, withdraw, settlement, set_status};
@@ -16,7 +18,6 @@ use swap::decide as decide_swap;
 
 impl Pool {
     // A pool of zeros, which a refused opening gives.
-    #[tactic(auto, unfolding(crate::specs::Calls::zero_pool, opening::specs::Opening::refused_opening))]
     pub fn zero() -> Pool
         ensures { result ≡ zero_pool }
     {
@@ -25,7 +26,6 @@ impl Pool {
     }
 
     // A new pool, and the ring's entries.
-    #[tactic(auto, unfolding(crate::specs::Calls::opening, crate::specs::Calls::zero_entries))]
     pub fn open(opening: Opening) -> Opened
         ensures { done result.after result.entries ≡ opening_of opening }
     {
@@ -40,7 +40,6 @@ impl Pool {
     }
 
     // All of a swap but the writing.
-    #[tactic(auto, unfolding(crate::specs::Calls::decision_of))]
     pub fn decide(
         self,
         entries: &[u64; RING_WORDS],
@@ -95,7 +94,6 @@ impl Pool {
     }
 
     // An exact amount in, at least a minimum out.
-    #[tactic(auto, unfolding(crate::specs::Calls::swap_base_input))]
     pub fn swap_base_input(
         self,
         entries: &mut [u64; RING_WORDS],
@@ -110,7 +108,6 @@ impl Pool {
     }
 
     // At most a maximum in, an exact amount out.
-    #[tactic(auto, unfolding(crate::specs::Calls::swap_base_output))]
     pub fn swap_base_output(
         self,
         entries: &mut [u64; RING_WORDS],
@@ -125,7 +122,6 @@ impl Pool {
     }
 
     // A deposit with two maximums, or a withdrawal with the owner's LP and two minimums.
-    #[tactic(auto, unfolding(crate::specs::Calls::deposit, crate::specs::Calls::withdraw))]
     pub fn change(
         self,
         is_deposit: bool,
@@ -169,7 +165,6 @@ impl Pool {
     }
 
     // The creators are paid out of the vaults.
-    #[tactic(auto, unfolding(crate::specs::Calls::settlement))]
     pub fn settle_creator_fee(self, share: u64) -> After
         ensures { result ≡ settlement self share }
     {
@@ -177,7 +172,6 @@ impl Pool {
     }
 
     // One bit of the status is set or cleared.
-    #[tactic(auto, unfolding(crate::specs::Calls::set_status))]
     pub fn set_status(self, bit: u64, flag: u64) -> After
         ensures { result ≡ set_status self bit flag }
     {
