@@ -7,7 +7,6 @@ ghost use Rattle.cp_swap.specs.DaySheet.{begun_at, sheet_words, sheet_memory, fe
 
 use oracle::RING_WORDS;
 use rates::Rates;
-use refusal::ACCEPTED;
 use rows::row::ROW_BYTES;
 use stream::feed::{Going, feed, finish};
 use words::{POOL_WORDS, rates_of};
@@ -53,18 +52,14 @@ pub fn cp_swap_day_sheet(
 ) -> u64
     ensures { sheet_memory result pool.new ring.new sheet.new held.new output.new progress.new ≡ fed_on pool.old ring.old sheet.old held.old input.now output.old progress.old }
 {
-    let fed = feed(going_of(*sheet), pool, ring, held, input, output);
-    let number = fed.number;
-    if number != ACCEPTED {
-        return number;
+    match feed(going_of(*sheet), pool, ring, held, input, output) {
+        Ok(fed) => {
+            *sheet = sheet_words(fed.going.rates, fed.going.begun);
+            *progress = [fed.taken as u64, fed.written as u64];
+            0
+        }
+        Err(refusal) => refusal.number(),
     }
-    let going = fed.going;
-    let rates = going.rates;
-    let taken = fed.taken as u64;
-    let written = fed.written as u64;
-    *sheet = sheet_words(rates, going.begun);
-    *progress = [taken, written];
-    ACCEPTED
 }
 
 // The end of the input: the last row, where one is begun.
@@ -78,14 +73,12 @@ pub fn cp_swap_day_sheet_end(
 ) -> u64
     ensures { sheet_memory result pool.new ring.new sheet.new held.now output.new progress.new ≡ ended_on pool.old ring.old sheet.old held.now output.old progress.old }
 {
-    let ended = finish(going_of(*sheet), pool, ring, held, output);
-    let number = ended.number;
-    if number != ACCEPTED {
-        return number;
+    match finish(going_of(*sheet), pool, ring, held, output) {
+        Ok(ended) => {
+            *sheet = sheet_words(ended.rates, 0);
+            *progress = [0, ended.written as u64];
+            0
+        }
+        Err(refusal) => refusal.number(),
     }
-    let rates = ended.rates;
-    let written = ended.written as u64;
-    *sheet = sheet_words(rates, 0);
-    *progress = [0, written];
-    ACCEPTED
 }

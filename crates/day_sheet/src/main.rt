@@ -1,7 +1,7 @@
 // The day sheet: rows from standard input, their answers to standard output, in constant memory.
 #![tactic(auto)]
 
-ghost use Rattle.std.specs.Prelude.{◌≡◌, ◌*◌, ◌≤◌, length, take};
+ghost use Rattle.std.specs.Prelude.{Ok, ◌≡◌, ◌*◌, ◌≤◌, length, take};
 ghost use Rattle.rows.specs.Row.{row_bytes};
 ghost use Rattle.memory.specs.Steps.{IsRecord};
 ghost use Rattle.sheet.specs.Lent.{sheet_in};
@@ -26,10 +26,6 @@ fn fail(rt: &impl Eprint, what: &str, error: io::Error) {
     let _ = eprintln!(rt; "{what}: {error}");
 }
 
-fn fail_to_read(rt: &impl Eprint, error: io::Error) {
-    fail(rt, "standard input", error);
-}
-
 fn write_rows(rt: &(impl Print + Eprint), rows: &[u8]) -> bool {
     match rt.write_all(rows) {
         Ok(()) => true,
@@ -50,9 +46,12 @@ fn answer_block(
     output: &mut [u8; ANSWER_BYTES],
 ) -> Fed
     requires { IsRecord pool.old × (length block.now ≤ 8192) }
-    ensures { fed_memory result pool.new ring.new held.new output.new ≡ left_words (left_by output.old (feed (row_bytes * length block.now) (sheet_in going.rates pool.old ring.old) (take going.begun held.old) block.now)) }
+    ensures { fed_memory (Ok result) pool.new ring.new held.new output.new ≡ left_words (left_by output.old (feed (row_bytes * length block.now) (sheet_in going.rates pool.old ring.old) (take going.begun held.old) block.now)) }
 {
-    feed(going, pool, ring, held, block, output)
+    let Ok(fed) = feed(going, pool, ring, held, block, output) else {
+        unreachable!()
+    };
+    fed
 }
 
 // The last row, where bytes follow the last newline.
@@ -66,12 +65,12 @@ fn answer_last(
     requires { IsRecord pool.old }
 {
     let mut output = [0u8; ROW_BYTES];
-    let ended = finish(going, pool, ring, held, &mut output);
-    let written = ended.written;
-    write_rows(rt, &output[..written]);
+    if let Ok(ended) = finish(going, pool, ring, held, &mut output) {
+        write_rows(rt, &output[..ended.written]);
+    }
 }
 
-// Nothing is written after a failure. The turns only bound the loop.
+// Nothing is written after a failure. The range only bounds the loop.
 fn main(rt: HostRuntime) {
     let mut stdin = rt.stdin();
     let mut pool = [0u64; POOL_WORDS];
@@ -80,13 +79,11 @@ fn main(rt: HostRuntime) {
     let mut input = [0u8; BLOCK_BYTES];
     let mut output = [0u8; ANSWER_BYTES];
     let mut going = start();
-    let mut turns = u64::MAX;
-    while turns > 0 {
-        turns -= 1;
+    'pieces: for _ in 0..u64::MAX {
         let n = match stdin.read(&mut input) {
             Ok(n) => n,
             Err(error) => {
-                fail_to_read(&rt, error);
+                fail(&rt, "standard input", error);
                 return;
             }
         };
@@ -103,8 +100,7 @@ fn main(rt: HostRuntime) {
             &mut output,
         );
         going = fed.going;
-        let written = fed.written;
-        if !write_rows(&rt, &output[..written]) {
+        if !write_rows(&rt, &output[..fed.written]) {
             return;
         }
     }

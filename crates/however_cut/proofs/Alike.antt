@@ -9,6 +9,7 @@ use borrow.Author.Tests.{leb-true, leb-false}
 use lib.Dec.{eqb, leb}
 use lib.ListN.{length, length-append, length-take}
 use lib.Seq.{take_all}
+use Rattle.std.specs.Prelude.{Option}
 use Rattle.rows.specs.declared.row.Row.{Row}
 use Rattle.rows.specs.Row.{newline, read_row, rows_from}
 use Rattle.rows.proofs.RowRead.{other_length}
@@ -85,7 +86,7 @@ pub run_reads : (s : Sheet) {xs ys : List (List ℕ)} → ReadAlike xs ys → ru
 unfolding run
 run_reads s none = refl
 run_reads s (more {a} {b} {xs} {ys} e rest) =
-    ap (λ (r : Row). yielded (perform s r) ++ run (perform s r).sheet xs) e
+    ap (λ (r : Option Row). yielded (perform s r) ++ run (perform s r).sheet xs) e
     ∙ ap (λ (l : List ℕ). yielded (perform s (read_row b)) ++ l) (run_reads (perform s (read_row b)).sheet rest)
 
 pub run_kept : (s : Sheet) (begun rest : List ℕ) → run s (rows_from (kept begun) rest) ≡ run s (rows_from begun rest)

@@ -1,4 +1,5 @@
-// Each call, an opening and the nets, over plain memory.
+// Each call, an opening and the nets, over plain memory. The three pieces that are lent stay three parameters, as C gives them: a struct of three
+// `&mut` would be put together at each call only to be taken apart, and each contract would find the receipt at `self.exit.1.1.0.now`.
 #![tactic(auto, unfolding(crate::specs::Memory::called_on, crate::specs::Memory::record_tests, crate::specs::Memory::stored, crate::specs::Memory::untouched, crate::specs::Memory::nets_on, crate::specs::Memory::stored_nets, crate::specs::Steps::pool_answer, crate::specs::Steps::given_on, refusal::specs::Tests::first, refusal::specs::Tests::outcome, refusal::specs::Tests::tested, calls::specs::Next::next))]
 
 ghost use Rattle.std.specs.Prelude.{◌≡◌};

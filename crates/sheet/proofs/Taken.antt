@@ -1,16 +1,17 @@
 -- What a row leaves in the memory that it was lent is what it does, in numbers.
 -- Assumes nothing.
-use Prim.Native.Nat.{ℕ}
+use Prim.Native.Nat.{ℕ, ◌+◌}
 use mathlib.Core.Path.{◌≡◌, refl, sym, ap, ◌∙◌}
 use mathlib.Core.Bool.{Bool, true, false, cond}
-use mathlib.Core.List.{List}
-use lib.Dec.{eqb}
-use borrow.Author.Tests.{eq-eqb, ne_eqb}
+use mathlib.Core.List.{List, [], ◌∷◌}
+use lib.Dec.{eqb, ltb}
 use Rattle.refusal.specs.Refusal.{unreadable_row}
-use Rattle.refusal.specs.Tests.{first}
-use Rattle.refusal.proofs.Stops.{outcome_stop, outcome_go}
+use Rattle.std.specs.Prelude.{Option, Result, Ok, Err}
+use Rattle.refusal.proofs.Stops.{outcome_all, first_none}
+use Rattle.refusal.proofs.Stages.{same_number, ok_ne_err}
+use Rattle.refusal.specs.Tests.{first, outcome, tested, tested_by, ◌then◌}
 use Rattle.rates.specs.declared.Rates.{Rates}
-use Rattle.rates.specs.Rates.{rate_tests}
+use Rattle.rates.specs.Rates.{highest_fee_rate, rate_limits, rate_tests}
 use Rattle.receipt.specs.Receipt.{refusal}
 use Rattle.opening.specs.declared.Opening.{Opening}
 use Rattle.pool.specs.declared.state.Pool.{Pool}
@@ -19,31 +20,42 @@ use Rattle.pool.specs.Calls.{opening}
 use Rattle.rows.specs.declared.row.Row.{Row}
 use Rattle.calls.specs.declared.Call.{Call}
 use Rattle.calls.specs.Next.{state_of, next}
-use Rattle.words.specs.Words.{pool_words, pool_of, receipt_words, share_of}
+use Rattle.words.specs.Words.{at, enabled_at, used_at, pool_words, pool_of, receipt_words, share_of}
 use Rattle.memory.specs.Memory.{Memory, memory, untouched, stored, record_tests, called_on}
 use Rattle.memory.specs.Steps.{IsRecord, opened_with}
 use Rattle.memory.proofs.Readable.{record_read, called_words}
-use Rattle.sheet.specs.Sheet.{Sheet, refused_row, called, keep_rates, replaced, perform}
+use Rattle.sheet.specs.Sheet.{Sheet, Turn, refused_row, called, keep_rates, replaced, perform}
 use Rattle.sheet.specs.Lent.{sheet_in, RowMemory, row_memory, turn_words, performed_on}
 use Rattle.sheet.specs.Stages.{readable as isReadable, call_of, called_for}
-use Rattle.sheet.proofs.Picks.{picks_true, picks_false}
+use Rattle.sheet.proofs.Picks.{picks_true, picks_false, refused_by, passed}
 
 -- ---- rates, whose number alone the receipt shows
-module _ (held rates : Rates) (n : ℕ) (is : n ≡ first (rate_tests rates)) (p : Pool) (e x : List ℕ) (shows : x ≡ receipt_words (refusal n)) where
+module _ (held rates : Rates) (p : Pool) (e : List ℕ) where
   abbrev s : Sheet
   s = record { rates = held; pool = p; entries = e }
 
-  pub rates_refused : (n ≡ 0 → ⊥) → row_memory held (pool_words p) e x ≡ turn_words (keep_rates s rates)
-  unfolding keep_rates
-  rates_refused f =
-      ap (row_memory held (pool_words p) e) (shows ∙ ap (λ (k : ℕ). receipt_words (refusal k)) is)
-      ∙ ap turn_words (picks_false (eqb (first (rate_tests rates)) 0) _ (refused_row s (first (rate_tests rates))) (ne_eqb _ _ (λ z. f (is ∙ z))))
+  -- by what their tests answer
+  abbrev kept_by : Result Unit ℕ → Turn
+  kept_by (Ok _) = record { sheet = record { rates = rates; pool = p; entries = e }; receipt = refusal 0 }
+  kept_by (Err n) = refused_row s n
 
-  pub rates_kept : n ≡ 0 → row_memory rates (pool_words p) e x ≡ turn_words (keep_rates s rates)
-  unfolding keep_rates
-  rates_kept z =
-      ap (row_memory rates (pool_words p) e) (shows ∙ ap (λ (k : ℕ). receipt_words (refusal k)) z)
-      ∙ ap turn_words (picks_true (eqb (first (rate_tests rates)) 0) _ (refused_row s (first (rate_tests rates))) (eq-eqb _ _ (sym is ∙ z)))
+  kept_is : keep_rates s rates ≡ kept_by (tested (rate_tests rates))
+  unfolding keep_rates tested rate_tests rate_limits ◌then◌ first
+  kept_is = go (ltb highest_fee_rate (rates.trade + rates.creator)) (ltb 1000000 (rates.protocol + rates.fund)) (ltb 1000000 rates.share)
+    where
+      go : (x y z : Bool)
+          → let n = first ((x, 3) ∷ (y, 3) ∷ (z, 3) ∷ []) in
+          cond (eqb n 0) (kept_by (Ok tt)) (refused_row s n) ≡ kept_by (tested_by ((x, 3) ∷ (y, 3) ∷ (z, 3) ∷ []))
+      go true y z = refl
+      go false true z = refl
+      go false false true = refl
+      go false false false = refl
+
+  pub rates_refused : (n : ℕ) → tested (rate_tests rates) ≡ Err n → row_memory held (pool_words p) e (receipt_words (refusal n)) ≡ turn_words (keep_rates s rates)
+  rates_refused n says = ap turn_words (sym (kept_is ∙ ap kept_by says))
+
+  pub rates_kept : {x : List ℕ} {u : Unit} → tested (rate_tests rates) ≡ Ok u → x ≡ receipt_words (refusal 0) → row_memory rates (pool_words p) e x ≡ turn_words (keep_rates s rates)
+  rates_kept says shows = ap (row_memory rates (pool_words p) e) shows ∙ ap turn_words (sym (kept_is ∙ ap kept_by says))
 
 -- ---- on the record of a pool
 module _ (rates : Rates) (w e : List ℕ) (is : IsRecord w) where
@@ -63,23 +75,23 @@ module _ (rates : Rates) (w e : List ℕ) (is : IsRecord w) where
       record_kept rates x ∙ ap (row_memory rates (pool_words (pool_of w)) e) shows
 
   pub not_called :
-      {x : List ℕ} (kind a b c d e' : ℕ) → isReadable kind a b c d e' ≡ false → x ≡ receipt_words (refusal unreadable_row)
-      → row_memory rates w e x ≡ turn_words (called_for held kind a b c d e')
+      {x : List ℕ} (row : Row) → isReadable row ≡ false → x ≡ receipt_words (refusal unreadable_row)
+      → row_memory rates w e x ≡ turn_words (called_for held row)
   unfolding called_for
-  not_called kind a b c d e' spare shows =
-      row_refused unreadable_row shows ∙ ap turn_words (picks_false (isReadable kind a b c d e') _ (refused_row held unreadable_row) spare)
+  not_called row spare shows =
+      row_refused unreadable_row shows ∙ ap turn_words (picks_false (isReadable row) _ (refused_row held unreadable_row) spare)
 
   pub call_taken :
-      (r : List ℕ) (share kind a b c d e' : ℕ) (m : Memory) → isReadable kind a b c d e' ≡ true → share ≡ share_of (pool_of w)
-      → m ≡ called_on w e r (call_of share kind a b c d)
-      → over m ≡ turn_words (called_for held kind a b c d e')
+      (r : List ℕ) (share : ℕ) (row : Row) (m : Memory) → isReadable row ≡ true → share ≡ share_of (pool_of w)
+      → m ≡ called_on w e r (call_of share row)
+      → over m ≡ turn_words (called_for held row)
   unfolding called_for
-  call_taken r share kind a b c d e' m sound at-share came =
-      ap over (came ∙ ap (λ (n : ℕ). called_on w e r (call_of n kind a b c d)) at-share ∙ called_words w e r asked is)
-      ∙ ap turn_words (picks_true (isReadable kind a b c d e') (called held (next (state_of (pool_of w) e) asked)) _ sound)
+  call_taken r share row m sound at-share came =
+      ap over (came ∙ ap (λ (n : ℕ). called_on w e r (call_of n row)) at-share ∙ called_words w e r asked is)
+      ∙ ap turn_words (picks_true (isReadable row) (called held (next (state_of (pool_of w) e) asked)) _ sound)
     where
       asked : Call
-      asked = call_of (share_of (pool_of w)) kind a b c d
+      asked = call_of (share_of (pool_of w)) row
 
   pub opening_taken :
       (r : List ℕ) (o : Opening) (m : Memory)
@@ -101,14 +113,18 @@ module _ (rates : Rates) (w e : List ℕ) (is : IsRecord w) where
       go false = row_refused n refl
 
 -- ---- whatever the record
-module _ (rates : Rates) (w e : List ℕ) (row : Row) (n : ℕ) (read : n ≡ first (record_tests w)) where
+module _ (rates : Rates) (w e : List ℕ) (row : Option Row) where
   abbrev refused_with : ℕ → RowMemory
   refused_with number = row_memory rates w e (receipt_words (refusal number))
 
-  pub no_record : {x : List ℕ} → (n ≡ 0 → ⊥) → x ≡ receipt_words (refusal n) → row_memory rates w e x ≡ performed_on rates w e row
+  pub record_refused : (n : ℕ) → tested (record_tests w) ≡ Err n → refused_with n ≡ performed_on rates w e row
   unfolding performed_on
-  no_record f shows = ap (row_memory rates w e) shows ∙ outcome_stop (record_tests w) refused_with _ n read f
+  record_refused n says = refused_by (record_tests w) n refused_with _ says
 
-  pub row_performed : {m : RowMemory} → n ≡ 0 → m ≡ turn_words (perform (sheet_in rates w e) row) → m ≡ performed_on rates w e row
-  unfolding performed_on record_tests
-  row_performed z did = did ∙ outcome_go (record_tests w) refused_with _ n refl read z
+  pub row_performed : {m : RowMemory} {u : Unit {0}} → tested (record_tests w) ≡ Ok u → m ≡ turn_words (perform (sheet_in rates w e) row) → m ≡ performed_on rates w e row
+  unfolding performed_on
+  row_performed says did = did ∙ outcome_all (record_tests w) refused_with _ (passed (record_tests w) says)
+
+-- past its test a record is a pool's
+pub record_tested : {u : Unit {0}} (w : List ℕ) → tested (record_tests w) ≡ Ok u → first (record_tests w) ≡ 0
+record_tested w says = sym (first_none (record_tests w) (passed (record_tests w) says))

@@ -12,23 +12,21 @@ use Rattle.receipt.specs.declared.Receipt.{Receipt}
 use Rattle.pool.specs.Calls.{zero_pool}
 use Rattle.calls.specs.Next.{State}
 use Rattle.calls.proofs.Within.{BooksFit, ReceiptFits, refusal_fits, call_fits, opening_fits}
-use Rattle.columns.specs.declared.Reading.{Reading}
-use Rattle.columns.specs.declared.Reading.TheVariants as C
+use Rattle.std.specs.Prelude.{Option, Some, None}
 use Rattle.columns.specs.Column.{read_column}
 use Rattle.columns.proofs.ColumnBack.{ReadFits, column_fits}
 use Rattle.rows.specs.declared.row.Row.{Row}
-use Rattle.rows.specs.declared.row.Row.TheVariants.{Unreadable, Row as row}
-use Rattle.rows.specs.Row.{with, column_at, read_row}
-use Rattle.sheet.specs.Sheet.{Sheet, Turn, empty_sheet, perform, first_amount, second_amount, is_swap, opening_with}
+use Rattle.rows.specs.Row.{numbers, with, column_at, read_row}
+use Rattle.sheet.specs.Sheet.{Sheet, Turn, empty_sheet, perform, first_amount, second_amount, is_swap}
 use Rattle.sheet.specs.Turns.{sheet_after, state_in}
-use Rattle.sheet.proofs.Effects.{Effect, opened, calls, stays, effect}
+use Rattle.sheet.proofs.Effects.{opening_by, Effect, opened, calls, stays, effect}
 
 -- ---- the numbers of a row that is read
-abbrev RowFits : Row → Type 0
-RowFits Unreadable = Unit {0}
-RowFits (row kind a b c d e) = (a ≤ u64_max) × (b ≤ u64_max)
+abbrev RowFits : Option Row → Type 0
+RowFits None = Unit {0}
+RowFits (Some r) = (r.a ≤ u64_max) × (r.b ≤ u64_max)
 
-abbrev row_with : Reading → Reading → Reading → Reading → Reading → Reading → Row
+abbrev row_with : Option ℕ → Option ℕ → Option ℕ → Option ℕ → Option ℕ → Option ℕ → Option Row
 row_with kind a b c d e =
     with kind λ kind.
     with a λ a.
@@ -36,16 +34,16 @@ row_with kind a b c d e =
     with c λ c.
     with d λ d.
     with e λ e.
-    row kind a b c d e
+    Some (numbers kind a b c d e)
 
-with_fits : (kind a b c d e : Reading) → ReadFits a → ReadFits b → RowFits (row_with kind a b c d e)
-with_fits C.Unreadable a b c d e h k = tt
-with_fits (C.Reads kind) C.Unreadable b c d e h k = tt
-with_fits (C.Reads kind) (C.Reads a) C.Unreadable c d e h k = tt
-with_fits (C.Reads kind) (C.Reads a) (C.Reads b) C.Unreadable d e h k = tt
-with_fits (C.Reads kind) (C.Reads a) (C.Reads b) (C.Reads c) C.Unreadable e h k = tt
-with_fits (C.Reads kind) (C.Reads a) (C.Reads b) (C.Reads c) (C.Reads d) C.Unreadable h k = tt
-with_fits (C.Reads kind) (C.Reads a) (C.Reads b) (C.Reads c) (C.Reads d) (C.Reads e) h k = (h, k)
+with_fits : (kind a b c d e : Option ℕ) → ReadFits a → ReadFits b → RowFits (row_with kind a b c d e)
+with_fits None a b c d e h k = tt
+with_fits (Some kind) None b c d e h k = tt
+with_fits (Some kind) (Some a) None c d e h k = tt
+with_fits (Some kind) (Some a) (Some b) None d e h k = tt
+with_fits (Some kind) (Some a) (Some b) (Some c) None e h k = tt
+with_fits (Some kind) (Some a) (Some b) (Some c) (Some d) None h k = tt
+with_fits (Some kind) (Some a) (Some b) (Some c) (Some d) (Some e) h k = (h, k)
 
 row_fits : (bytes : List ℕ) → RowFits (read_row bytes)
 unfolding read_row
@@ -53,7 +51,7 @@ row_fits bytes =
     go (not (eqb (length bytes) 102)) _
     (with_fits (read_column (take 2 bytes)) (column_at bytes 0) (column_at bytes 1) (column_at bytes 2) (column_at bytes 3) (column_at bytes 4) (column_fits _) (column_fits _))
   where
-    go : (b : Bool) (r : Row) → RowFits r → RowFits (cond b Unreadable r)
+    go : (b : Bool) (r : Option Row) → RowFits r → RowFits (cond b None r)
     go true r h = tt
     go false r h = h
 
@@ -62,10 +60,10 @@ pub record TurnFits (t : Turn) : Type 0 where
   pub books : BooksFit t.sheet.pool.books
   pub receipt : ReceiptFits t.receipt
 
-turn_fits : (s : Sheet) (r : Row) (t : Turn) → RowFits r → Effect s r t → BooksFit s.pool.books → TurnFits t
-turn_fits s r t f (opened a b c d e of_row z is) h =
-    let g : RowFits (row 1 a b c d e) = rw of_row at f in
-    let o = opening_fits (opening_with a b c d e s.rates) z g.0 g.1 in
+turn_fits : (s : Sheet) (r : Option Row) (t : Turn) → RowFits r → Effect s r t → BooksFit s.pool.books → TurnFits t
+turn_fits s r t f (opened q of_row _ z is) h =
+    let g : RowFits (Some q) = rw of_row at f in
+    let o = opening_fits (opening_by s q) z g.0 g.1 in
     rw is (record { books = o.books; receipt = o.receipt })
 turn_fits s r t f (calls c _ is) h = let d = call_fits (state_in s) c h in rw is (record { books = d.books; receipt = d.receipt })
 turn_fits s r t f (stays n short _ same is) h = record { books = rw (ap (λ (l : State). l.pool) same) h; receipt = rw is (refusal_fits n short) }

@@ -1,5 +1,5 @@
 -- A row over lent memory: the pool's record and a receipt in the order of `words`, and the ring's entries; the rates go by value.
-use Rattle.std.specs.Prelude.{List, ℕ}
+use Rattle.std.specs.Prelude.{Option, List, ℕ}
 use Rattle.refusal.specs.Tests.{outcome}
 use Rattle.rates.specs.declared.Rates.{Rates}
 use Rattle.oracle.specs.Ring.{Entries}
@@ -28,7 +28,7 @@ abbrev pub turn_words : Turn → RowMemory
 turn_words t = row_memory t.sheet.rates (pool_words t.sheet.pool) t.sheet.entries (receipt_words t.receipt)
 
 -- a row on the sheet that the memory holds; a record that is no pool is refused, whatever the row
-unfoldable pub performed_on : Rates → List ℕ → Entries → Row → RowMemory
+unfoldable pub performed_on : Rates → List ℕ → Entries → Option Row → RowMemory
 performed_on rates pool entries row =
     outcome (record_tests pool) (λ number. row_memory rates pool entries (receipt_words (refusal number)))
     (turn_words (perform (sheet_in rates pool entries) row))

@@ -1,5 +1,5 @@
 -- Document 01, 'The day sheet': what each row does, and the row that it yields.
-use Rattle.std.specs.Prelude.{ℕ, ◌+◌, Bool, cond, not, ◌&&◌, ◌||◌, List, [], ◌∷◌, ◌++◌, eqb}
+use Rattle.std.specs.Prelude.{Option, Some, None, ℕ, Bool, cond, ◌&&◌, ◌||◌, List, [], ◌∷◌, ◌++◌, eqb}
 use Rattle.refusal.specs.Refusal.{unreadable_row}
 use Rattle.refusal.specs.Tests.{first}
 use Rattle.rates.specs.declared.Rates.{Rates}
@@ -16,7 +16,6 @@ use Rattle.opening.specs.declared.Opening.{Opening}
 use Rattle.opening.specs.Opening.{zero_rates}
 use Rattle.pool.specs.Calls.{zero_pool, zero_entries, opening, swap_base_input, swap_base_output, deposit, withdraw, settlement, set_status}
 use Rattle.rows.specs.declared.row.Row.{Row}
-use Rattle.rows.specs.declared.row.Row.TheVariants.{Unreadable, Row as row}
 use Rattle.rows.specs.Row.{read_row, write_row, rows}
 use Rattle.receipt.specs.Kind as Kind
 
@@ -77,17 +76,17 @@ opening_with amount0 amount1 model enabled openTime rates = record {
   grid = day_grid;
 }
 
-unfoldable pub perform : Sheet → Row → Turn
-perform s Unreadable = refused_row s unreadable_row
-perform s (row kind a b c d e) =
-    cond (eqb kind 0) (keep_rates s (record { trade = a; protocol = b; fund = c; creator = d; share = e }))
-    (cond (eqb kind Kind.opening_kind) (replaced s (opening (opening_with a b c d e s.rates)))
-    (cond (eqb kind Kind.swap_base_input_kind) (unless_spare (eqb e 0) s (called s (swap_base_input s.pool s.entries a b c d)))
-    (cond (eqb kind Kind.swap_base_output_kind) (unless_spare (eqb e 0) s (called s (swap_base_output s.pool s.entries a b c d)))
-    (cond (eqb kind Kind.deposit_kind) (unless_spare (eqb d 0 && eqb e 0) s (called_besides s (deposit s.pool a b c)))
-    (cond (eqb kind Kind.withdraw_kind) (unless_spare (eqb e 0) s (called_besides s (withdraw s.pool a b c d)))
-    (cond (eqb kind Kind.settle_creator_fee_kind) (unless_spare (eqb a 0 && eqb b 0 && eqb c 0 && eqb d 0 && eqb e 0) s (called_besides s (settlement s.pool s.pool.terms.rates.share)))
-    (cond (eqb kind Kind.set_status_kind) (unless_spare (eqb c 0 && eqb d 0 && eqb e 0) s (called_besides s (set_status s.pool a b)))
+unfoldable pub perform : Sheet → Option Row → Turn
+perform s None = refused_row s unreadable_row
+perform s (Some r) =
+    cond (eqb r.kind 0) (keep_rates s (record { trade = r.a; protocol = r.b; fund = r.c; creator = r.d; share = r.e }))
+    (cond (eqb r.kind Kind.opening_kind) (replaced s (opening (opening_with r.a r.b r.c r.d r.e s.rates)))
+    (cond (eqb r.kind Kind.swap_base_input_kind) (unless_spare (eqb r.e 0) s (called s (swap_base_input s.pool s.entries r.a r.b r.c r.d)))
+    (cond (eqb r.kind Kind.swap_base_output_kind) (unless_spare (eqb r.e 0) s (called s (swap_base_output s.pool s.entries r.a r.b r.c r.d)))
+    (cond (eqb r.kind Kind.deposit_kind) (unless_spare (eqb r.d 0 && eqb r.e 0) s (called_besides s (deposit s.pool r.a r.b r.c)))
+    (cond (eqb r.kind Kind.withdraw_kind) (unless_spare (eqb r.e 0) s (called_besides s (withdraw s.pool r.a r.b r.c r.d)))
+    (cond (eqb r.kind Kind.settle_creator_fee_kind) (unless_spare (eqb r.a 0 && eqb r.b 0 && eqb r.c 0 && eqb r.d 0 && eqb r.e 0) s (called_besides s (settlement s.pool s.pool.terms.rates.share)))
+    (cond (eqb r.kind Kind.set_status_kind) (unless_spare (eqb r.c 0 && eqb r.d 0 && eqb r.e 0) s (called_besides s (set_status s.pool r.a r.b)))
     (refused_row s unreadable_row))))))))
 
 -- ---- the row that it yields: refusal number or 0, two amounts, nets, supply

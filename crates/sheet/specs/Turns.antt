@@ -1,10 +1,9 @@
 -- Rows in turn: the sheet after them, and their receipts.
-use Rattle.std.specs.Prelude.{ℕ, Bool, false, List, [], ◌∷◌, eqb}
+use Rattle.std.specs.Prelude.{Option, Some, None, ℕ, Bool, false, List, [], ◌∷◌, eqb}
 use Rattle.receipt.specs.declared.Receipt.{Receipt}
 use Rattle.receipt.specs.Kind as Kind
 use Rattle.calls.specs.Next.{State, state_of}
 use Rattle.rows.specs.declared.row.Row.{Row}
-use Rattle.rows.specs.declared.row.Row.TheVariants.{Unreadable, Row as row}
 use Rattle.rows.specs.Row.{read_row}
 use Rattle.sheet.specs.Sheet.{Sheet, perform}
 
@@ -25,6 +24,6 @@ abbrev pub is_opening : Receipt → Bool
 is_opening x = eqb x.kind Kind.opening_kind
 
 -- a row of its kind asks for an opening
-abbrev pub asks_opening : Row → Bool
-asks_opening Unreadable = false
-asks_opening (row kind a b c d e) = eqb kind Kind.opening_kind
+abbrev pub asks_opening : Option Row → Bool
+asks_opening None = false
+asks_opening (Some r) = eqb r.kind Kind.opening_kind

@@ -10,7 +10,7 @@ use lib.Dec.{eqb}
 use lib.ListN.{length, take, drop, get_or}
 use Rattle.pool.specs.State.{net0, net1}
 use Rattle.history.specs.Afresh.{start}
-use Rattle.columns.specs.declared.Reading.TheVariants.{Reads}
+use Rattle.std.specs.Prelude.{Some}
 use Rattle.columns.specs.Column.{read_column}
 use Rattle.rows.specs.Row.{read_row, rows}
 use Rattle.sheet.specs.Sheet.{Sheet, empty_sheet, perform, day_sheet}
@@ -65,7 +65,7 @@ none_between s (x ∷ rs) (suc i) (suc j) h =
 -- a row that does not open, as its bytes tell
 not_opened :
     (input output : List ℕ) (k : ℕ) → let x = row_receipt empty_sheet (rows input) k in
-    read_column (take 2 (row_of output k)) ≡ Reads x.number → (Opens input output k → ⊥) → is_opening x ≡ false
+    read_column (take 2 (row_of output k)) ≡ Some x.number → (Opens input output k → ⊥) → is_opening x ≡ false
 unfolding OpeningsSeen
 not_opened input output k shown none =
     let r = read_row (get_or (rows input) k []) in
@@ -78,7 +78,7 @@ not_opened input output k shown none =
         → eqb (row_receipt empty_sheet (rows input) k).number 0 ≡ b → (a && b) ≡ false
     go false b p q = refl
     go true false p q = refl
-    go true true p q = absurd (none (record { asks = p; shows0 = shown ∙ ap Reads (eqb-true _ _ q) }))
+    go true true p q = absurd (none (record { asks = p; shows0 = shown ∙ ap Some (eqb-true _ _ q) }))
 
 -- a row that opens is among the rows up to a later one
 row_opened :
@@ -99,7 +99,7 @@ row_opened s (x ∷ rs) (suc k) (suc i) h l e =
 -- a row that opens, as its bytes tell
 was_opened :
     (input output : List ℕ) (k : ℕ) → let x = row_receipt empty_sheet (rows input) k in
-    read_column (take 2 (row_of output k)) ≡ Reads x.number → Opens input output k → is_opening x ≡ true
+    read_column (take 2 (row_of output k)) ≡ Some x.number → Opens input output k → is_opening x ≡ true
 unfolding OpeningsSeen
 was_opened input output k shown o =
     let r = read_row (get_or (rows input) k []) in
@@ -108,7 +108,7 @@ was_opened input output k shown o =
     let accepted : x.number ≡ 0 = read_back (sym shown ∙ o.shows0) in
     openings_seen s r ∙ rw (o.asks, accepted)
   where
-    read_back : {a b : ℕ} → Reads a ≡ Reads b → a ≡ b
+    read_back : {a b : ℕ} → Some a ≡ Some b → a ≡ b
     read_back e = cc
 
 pub printed_theorem : PrintedTheorem

@@ -8,6 +8,7 @@ use native.Mathlib.Omega.{arith}
 use borrow.Author.Tests.{ltb-true, ltb-false}
 use lib.Dec.{eqb, ltb}
 use lib.ListN.{take}
+use Rattle.std.specs.Prelude.{Option}
 use Rattle.rows.specs.declared.row.Row.{Row}
 use Rattle.rows.specs.Row.{newline, row_bytes, read_row, rows_from}
 use Rattle.sheet.specs.Sheet.{Sheet, perform, yielded, run}
@@ -27,7 +28,7 @@ after_reads : (s : Sheet) {xs ys : List (List ℕ)} → ReadAlike xs ys → shee
 unfolding sheet_after
 after_reads s none = refl
 after_reads s (more {a} {b} {xs} {ys} e rest) =
-    ap (λ (r : Row). sheet_after (perform s r).sheet xs) e ∙ after_reads (perform s (read_row b)).sheet rest
+    ap (λ (r : Option Row). sheet_after (perform s r).sheet xs) e ∙ after_reads (perform s (read_row b)).sheet rest
 
 take_alike : (k : ℕ) {xs ys : List (List ℕ)} → ReadAlike xs ys → ReadAlike (take k xs) (take k ys)
 take_alike zero h = none

@@ -9,7 +9,7 @@ use lib.Seq.{take-append-add, drop-append-add, take_at, drop_at}
 use Rattle.refusal.specs.Tests.{u64_max}
 use Rattle.pool.specs.State.{net0, net1}
 use Rattle.calls.proofs.Within.{BooksFit}
-use Rattle.columns.specs.declared.Reading.TheVariants.{Reads}
+use Rattle.std.specs.Prelude.{Some}
 use Rattle.columns.specs.Column.{read_column, column}
 use Rattle.columns.proofs.ColumnWritten.{column_length}
 use Rattle.columns.proofs.ColumnBack.{column_back}
@@ -33,7 +33,7 @@ column_in front col back at width h w l =
 
 column_shown :
     (bytes front : List ℕ) (width n : ℕ) (back : List ℕ) (at : ℕ) → bytes ≡ front ++ (column (suc width) n ++ back) → length front ≡ at → at + suc width ≤ 102
-    → n < 10 ^ suc width → n ≤ u64_max → read_column (take (suc width) (drop at (take 102 bytes))) ≡ Reads n
+    → n < 10 ^ suc width → n ≤ u64_max → read_column (take (suc width) (drop at (take 102 bytes))) ≡ Some n
 column_shown bytes front width n back at is h l short fits =
     ap (λ (l : List ℕ). read_column (take (suc width) (drop at (take 102 l)))) is
     ∙ ap read_column (column_in front (column (suc width) n) back at (suc width) h (column_length (suc width) n) l)
@@ -43,37 +43,37 @@ module _ (n a b c d e : ℕ) (rest : List ℕ) where
   abbrev whole : List ℕ
   whole = write_row n a b c d e ++ rest
 
-  pub shown_number : n ≤ 99 → read_column (take 2 (take 102 whole)) ≡ Reads n
+  pub shown_number : n ≤ 99 → read_column (take 2 (take 102 whole)) ≡ Some n
   unfolding write_row
   shown_number h =
       column_shown whole [] 1 n (column 20 a ++ (column 20 b ++ (column 20 c ++ (column 20 d ++ (column 20 e ++ ((newline ∷ []) ++ rest)))))) 0
       (simp append_assoc) refl (omega arith) (omega arith) (omega arith)
 
-  pub shown_first : a ≤ u64_max → column_at (take 102 whole) 0 ≡ Reads a
+  pub shown_first : a ≤ u64_max → column_at (take 102 whole) 0 ≡ Some a
   unfolding write_row
   shown_first h =
       column_shown whole (column 2 n) 19 a (column 20 b ++ (column 20 c ++ (column 20 d ++ (column 20 e ++ ((newline ∷ []) ++ rest))))) 2
       (simp append_assoc) (column_length 2 n) (omega arith) (omega arith) h
 
-  pub shown_second : b ≤ u64_max → column_at (take 102 whole) 1 ≡ Reads b
+  pub shown_second : b ≤ u64_max → column_at (take 102 whole) 1 ≡ Some b
   unfolding write_row
   shown_second h =
       column_shown whole (column 2 n ++ column 20 a) 19 b (column 20 c ++ (column 20 d ++ (column 20 e ++ ((newline ∷ []) ++ rest)))) 22
       (simp append_assoc) (simp (length-append, column_length 2 n, column_length 20 a)) (omega arith) (omega arith) h
 
-  pub shown_third : c ≤ u64_max → column_at (take 102 whole) 2 ≡ Reads c
+  pub shown_third : c ≤ u64_max → column_at (take 102 whole) 2 ≡ Some c
   unfolding write_row
   shown_third h =
       column_shown whole (column 2 n ++ (column 20 a ++ column 20 b)) 19 c (column 20 d ++ (column 20 e ++ ((newline ∷ []) ++ rest))) 42
       (simp append_assoc) (simp (length-append, column_length 2 n, column_length 20 a, column_length 20 b)) (omega arith) (omega arith) h
 
-  pub shown_fourth : d ≤ u64_max → column_at (take 102 whole) 3 ≡ Reads d
+  pub shown_fourth : d ≤ u64_max → column_at (take 102 whole) 3 ≡ Some d
   unfolding write_row
   shown_fourth h =
       column_shown whole (column 2 n ++ (column 20 a ++ (column 20 b ++ column 20 c))) 19 d (column 20 e ++ ((newline ∷ []) ++ rest)) 62
       (simp append_assoc) (simp (length-append, column_length 2 n, column_length 20 a, column_length 20 b, column_length 20 c)) (omega arith) (omega arith) h
 
-  pub shown_fifth : e ≤ u64_max → column_at (take 102 whole) 4 ≡ Reads e
+  pub shown_fifth : e ≤ u64_max → column_at (take 102 whole) 4 ≡ Some e
   unfolding write_row
   shown_fifth h =
       column_shown whole (column 2 n ++ (column 20 a ++ (column 20 b ++ (column 20 c ++ column 20 d)))) 19 e ((newline ∷ []) ++ rest) 82

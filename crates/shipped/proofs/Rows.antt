@@ -12,20 +12,21 @@ use Rattle.receipt.specs.declared.Receipt.{Receipt}
 use Rattle.receipt.specs.Receipt.{refusal}
 use Rattle.calls.specs.Next.{State}
 use Rattle.calls.proofs.Within.{call_kind}
+use Rattle.std.specs.Prelude.{Option}
 use Rattle.rows.specs.declared.row.Row.{Row}
 use Rattle.rows.specs.Row.{read_row}
-use Rattle.sheet.specs.Sheet.{Sheet, Turn, perform, opening_with}
+use Rattle.sheet.specs.Sheet.{Sheet, Turn, perform}
 use Rattle.sheet.specs.Turns.{sheet_after, receipts_of, state_in, is_opening, asks_opening}
-use Rattle.sheet.proofs.Effects.{Effect, opened, calls as asked, stays as alone, effect}
+use Rattle.sheet.proofs.Effects.{opening_by, Effect, opened, calls as asked, stays as alone, effect}
 use Rattle.shipped.specs.Openings.{Went, stop, calls, opens, stays}
 use Rattle.shipped.specs.Day.{OpeningsSeen}
 use Rattle.shipped.proofs.Went.{opening_seen}
 
 -- ---- what they do
 row_went :
-    (s : Sheet) {x : Row} (t : Turn) {xs : List Receipt} {later : State} → Effect s x t → Went (state_in t.sheet) xs later
+    (s : Sheet) {x : Option Row} (t : Turn) {xs : List Receipt} {later : State} → Effect s x t → Went (state_in t.sheet) xs later
     → Went (state_in s) (t.receipt ∷ xs) later
-row_went s t (opened a b c d e _ z is) rest = rw is (opens (opening_with a b c d e s.rates) z (rw is at rest))
+row_went s t (opened q _ _ z is) rest = rw is (opens (opening_by s q) z (rw is at rest))
 row_went s t (asked c _ is) rest = rw is (calls c (rw is at rest))
 row_went s t (alone n _ _ same is) rest = rw is (stays n (rw same at rest))
 
@@ -42,8 +43,8 @@ refusal_seen : (n : ℕ) → (is_opening (refusal n) ≡ false) × ((refusal n).
 unfolding refusal
 refusal_seen n = (refl, refl)
 
-seen : (s : Sheet) (r : Row) (t : Turn) → Effect s r t → is_opening t.receipt ≡ (asks_opening r && eqb t.receipt.number 0)
-seen s r t (opened a b c d e of_row z is) = rw (is, of_row, opening_seen (opening_with a b c d e s.rates) z, z)
+seen : (s : Sheet) (r : Option Row) (t : Turn) → Effect s r t → is_opening t.receipt ≡ (asks_opening r && eqb t.receipt.number 0)
+seen s r t (opened q of_row kind z is) = rw (is, of_row, kind, opening_seen (opening_by s q) z, z)
 seen s r t (asked c none is) = rw (is, call_kind (state_in s) c, none)
 seen s r t (alone n _ none same is) = rw (is, (refusal_seen n).0, (refusal_seen n).1, none)
 

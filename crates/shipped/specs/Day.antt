@@ -1,10 +1,9 @@
 -- Demand 3 and document 02 (e) of a day sheet, whatever its bytes: its rows are calls in turn, an accepted opening starts anew, and every other
 -- row leaves pool and ring alone. What holds of its points holds of the numbers in the rows that are written, however the input is cut.
-use Rattle.std.specs.Prelude.{ℕ, ◌*◌, ◌≤◌, ◌<◌, ◌≡◌, true, ◌&&◌, List, [], ◌++◌, eqb, length, take, drop, get_or}
+use Rattle.std.specs.Prelude.{Option, Some, ℕ, ◌*◌, ◌≤◌, ◌<◌, ◌≡◌, true, ◌&&◌, List, [], ◌++◌, eqb, length, take, drop, get_or}
 use Rattle.accounting.specs.Locked.{lock_lp_amount}
 use Rattle.receipt.specs.declared.Receipt.{Receipt}
 use Rattle.calls.specs.Next.{State}
-use Rattle.columns.specs.declared.Reading.TheVariants.{Reads}
 use Rattle.columns.specs.Column.{read_column}
 use Rattle.rows.specs.declared.row.Row.{Row}
 use Rattle.rows.specs.Row.{column_at, read_row, rows}
@@ -17,7 +16,7 @@ use Rattle.shipped.specs.Written.{state_after, row_of, ShowsRows}
 
 -- a receipt is an accepted opening's where its row asks for an opening and is answered 0, and nowhere else
 unfoldable pub OpeningsSeen : Type 0
-OpeningsSeen = (s : Sheet) (r : Row) → let x = (perform s r).receipt in is_opening x ≡ (asks_opening r && eqb x.number 0)
+OpeningsSeen = (s : Sheet) (r : Option Row) → let x = (perform s r).receipt in is_opening x ≡ (asks_opening r && eqb x.number 0)
 
 -- ---- the points of an input: point k is after its first k rows
 abbrev pub state_at : List ℕ → ℕ → State
@@ -49,13 +48,13 @@ DayTheorem =
 -- row k asks for an opening, and the row that is written for it shows 0
 pub record Opens (input output : List ℕ) (k : ℕ) : Type 0 where
   pub asks : asks_opening (read_row (get_or (rows input) k [])) ≡ true
-  pub shows0 : read_column (take 2 (row_of output k)) ≡ Reads 0
+  pub shows0 : read_column (take 2 (row_of output k)) ≡ Some 0
 
 -- the numbers in the last three columns of row k that is written
 pub record Found (output : List ℕ) (k net0 net1 supply : ℕ) : Type 0 where
-  pub in_net0 : column_at (row_of output k) 2 ≡ Reads net0
-  pub in_net1 : column_at (row_of output k) 3 ≡ Reads net1
-  pub in_supply : column_at (row_of output k) 4 ≡ Reads supply
+  pub in_net0 : column_at (row_of output k) 2 ≡ Some net0
+  pub in_net1 : column_at (row_of output k) 3 ≡ Some net1
+  pub in_supply : column_at (row_of output k) 4 ≡ Some supply
 
 -- nets a and b with supply l in row i, nets c and d with supply m in row j: the floor in row i; the rise from it to row j where no row after i up
 -- to j opens; and where a row up to i opens, a supply of at least 100 and both nets above 0 in row i

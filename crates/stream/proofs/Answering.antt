@@ -4,8 +4,9 @@ use mathlib.Core.Path.{◌≡◌, refl, sym, ap, ◌∙◌}
 use mathlib.Core.List.{List, [], ◌∷◌}
 use native.Mathlib.Omega.{arith}
 use lib.ListN.{length, take}
-use Rattle.refusal.specs.Tests.{first}
-use Rattle.refusal.proofs.Stops.{outcome_stop, outcome_go}
+use Rattle.std.specs.Prelude.{Option, Ok, Err}
+use Rattle.refusal.specs.Tests.{tested}
+use Rattle.refusal.proofs.Stops.{outcome_go, outcome_all}
 use Rattle.rates.specs.declared.Rates.{Rates}
 use Rattle.receipt.specs.declared.Receipt.{Receipt}
 use Rattle.receipt.specs.Receipt.{refusal}
@@ -23,13 +24,14 @@ use Rattle.sheet.specs.declared.turn.Amounts.{Amounts}
 use Rattle.sheet.specs.Sheet.{Sheet, Turn, perform, yielded, first_amount, second_amount}
 use Rattle.sheet.specs.Lent.{sheet_in, RowMemory, row_memory, turn_words, performed_on}
 use Rattle.stream.specs.Pieces.{finish, over, left_at_end}
-use Rattle.stream.specs.Lent.{EndMemory, end_with, end_words, ended_over}
+use Rattle.sheet.proofs.Picks.{refused_by, passed}
+use Rattle.stream.specs.Lent.{EndMemory, end_memory, end_words, ended_over}
 use Rattle.stream.specs.Stages.{Answered}
 
 -- what the code reads of the memory that a row was done in, and writes
 pub answered :
-    (rates : Rates) (w e : List ℕ) (row : Row) (after : Rates) (w' e' r' : List ℕ) (output : List ℕ) (at : ℕ) (shown : Receipt) (amounts : Amounts) (held : Holdings)
-    {row' : Row} {left : List ℕ}
+    (rates : Rates) (w e : List ℕ) (row : Option Row) (after : Rates) (w' e' r' : List ℕ) (output : List ℕ) (at : ℕ) (shown : Receipt) (amounts : Amounts) (held : Holdings)
+    {row' : Option Row} {left : List ℕ}
     → IsRecord w
     → row' ≡ row
     → row_memory after w' e' r' ≡ performed_on rates w e row'
@@ -62,31 +64,32 @@ unfolding yielded
 yielded_length t = row_length _ _ _ _ _ _
 
 -- ---- the end of the input
-module _ (rates : Rates) (begun : ℕ) (w e held output : List ℕ) (n : ℕ) (read : n ≡ first (record_tests w)) where
+module _ (rates : Rates) (begun : ℕ) (w e held output : List ℕ) where
   abbrev untouched : ℕ → EndMemory
-  untouched number = end_with number rates w e 0 output
+  untouched number = end_memory (Err number) w e output
 
-  pub end_no_record : (n ≡ 0 → ⊥) → untouched n ≡ ended_over rates begun w e held output
+  pub end_no_record : (n : ℕ) → tested (record_tests w) ≡ Err n → untouched n ≡ ended_over rates begun w e held output
   unfolding ended_over
-  end_no_record f = outcome_stop (record_tests w) untouched _ n read f
+  end_no_record n says = refused_by (record_tests w) n untouched _ says
 
-  module _ (z : n ≡ 0) where
+  module _ {u : Unit {0}} (says : tested (record_tests w) ≡ Ok u) where
     ended : {m : EndMemory} → m ≡ end_words (left_at_end output (finish (sheet_in rates w e) (take begun held))) → m ≡ ended_over rates begun w e held output
-    unfolding ended_over record_tests
-    ended did = did ∙ outcome_go (record_tests w) untouched _ n refl read z
+    unfolding ended_over
+    ended did = did ∙ outcome_all (record_tests w) untouched _ (passed (record_tests w) says)
 
-    pub none_begun : IsRecord w → begun ≡ 0 → end_with 0 rates w e 0 output ≡ ended_over rates begun w e held output
+    pub none_begun : IsRecord w → begun ≡ 0 → end_memory (Ok (record { rates = rates; written = 0 })) w e output ≡ ended_over rates begun w e held output
     unfolding finish over left_at_end
-    none_begun is b = ended (ap (λ (l : List ℕ). end_with 0 rates l e 0 output) (sym (record_read w is)) ∙ rw b)
+    none_begun is b = ended (ap (λ (l : List ℕ). end_memory (Ok (record { rates = rates; written = 0 })) l e output) (sym (record_read w is)) ∙ rw b)
 
     pub last_row :
         (row : List ℕ) (after : Rates) (w' e' left : List ℕ) → 0 < length (take begun held) → length output ≡ 103 → row ≡ take begun held
         → Answered (perform (sheet_in rates w e) (read_row row)) output 0 after w' e' left
-        → end_with 0 after w' e' 103 left ≡ ended_over rates begun w e held output
+        → end_memory (Ok (record { rates = after; written = 103 })) w' e' left ≡ ended_over rates begun w e held output
     unfolding finish over left_at_end with_row
     last_row row after w' e' left some h same a = ended (go (take begun held) some same)
       where
-        go : (bytes : List ℕ) → 0 < length bytes → row ≡ bytes → end_with 0 after w' e' 103 left ≡ end_words (left_at_end output (finish (sheet_in rates w e) bytes))
+        go : (bytes : List ℕ) → 0 < length bytes → row ≡ bytes
+            → end_memory (Ok (record { rates = after; written = 103 })) w' e' left ≡ end_words (left_at_end output (finish (sheet_in rates w e) bytes))
         go [] some same = absurd (omega arith)
         go (b ∷ bs) some same =
             let s = sheet_in rates w e in
@@ -95,6 +98,6 @@ module _ (rates : Rates) (begun : ℕ) (w e held output : List ℕ) (n : ℕ) (r
             let did : perform s (read_row row) ≡ t = ap (λ (l : List ℕ). perform s (read_row l)) same in
             let put = rw (did, h) at a.row in
             let sheet : sheet_in after w' e' ≡ t.sheet = a.sheet ∙ ap (λ (t : Turn). t.sheet) did in
-            ap (λ (l : List ℕ). end_with 0 after l e' 103 left) (sym (record_read w' a.is_record))
-            ∙ (ap (λ (s : Sheet). end_with 0 s.rates (pool_words s.pool) s.entries 103 left) sheet
+            ap (λ (l : List ℕ). end_memory (Ok (record { rates = after; written = 103 })) l e' left) (sym (record_read w' a.is_record))
+            ∙ (ap (λ (s : Sheet). end_memory (Ok (record { rates = s.rates; written = 103 })) (pool_words s.pool) s.entries left) sheet
             ∙ rw (long, put))

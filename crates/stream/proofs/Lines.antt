@@ -6,28 +6,19 @@ use mathlib.Core.List.{List, [], ◌∷◌, ◌++◌}
 use native.Mathlib.Omega.{arith}
 use native.Mathlib.Nat.{min-le_left}
 use native.Mathlib.Decide.{dec_le}
-use borrow.Author.Tests.{eq-eqb, ne_eqb, eqb-true, lt-ltb, ltb-false}
-use lib.Dec.{eqb, ltb, leb-suc-suc}
-use lib.ListN.{length, get_or, take, drop, length-take, length-drop, drop_of_length-le}
-use lib.Seq.{drop-cons, take_all, length-take-le}
+use borrow.Author.Tests.{eqb-true, ltb-false}
+use Rattle.std.specs.Prelude.{position, unwrap_or, Some, None, ◌==◌}
+use Rattle.std.specs.List.{list_any, position_or_len}
+use Rattle.std.proofs.lemmas.List.Recursion.{is_position_or_len}
+use lib.Dec.{eqb, ltb}
+use lib.ListN.{length, take, drop, length-take, length-drop}
+use lib.Seq.{take_all, length-take-le}
 use Rattle.rows.specs.Row.{newline, read_row}
 use Rattle.rows.proofs.RowRead.{other_length}
 use Rattle.stream.specs.Pieces.{kept}
 use Rattle.stream.specs.Stages.{line_length}
 
--- ---- the search for a newline, byte by byte
-pub past_byte : (bytes : List ℕ) (at : ℕ) → at < length bytes → (get_or bytes at 0 ≡ newline → ⊥) → line_length (drop at bytes) ≡ suc (line_length (drop (suc at) bytes))
-unfolding line_length
-past_byte bytes at h other = ap line_length (drop-cons bytes at 0 h) ∙ rw (ne_eqb (get_or bytes at 0) newline other)
-
-pub at_newline : (bytes : List ℕ) (at : ℕ) → at < length bytes → get_or bytes at 0 ≡ newline → line_length (drop at bytes) ≡ 0
-unfolding line_length
-at_newline bytes at h e = ap line_length (drop-cons bytes at 0 h) ∙ rw (eq-eqb (get_or bytes at 0) newline e)
-
-pub at_end : (bytes : List ℕ) (at : ℕ) → length bytes ≤ at → line_length (drop at bytes) ≡ 0
-unfolding line_length
-at_end bytes at h = rw (drop_of_length-le bytes h)
-
+-- ---- a line
 pub line_within : (bytes : List ℕ) → line_length bytes ≤ length bytes
 unfolding line_length
 line_within [] = omega arith
@@ -64,39 +55,35 @@ line_found input from n e =
     let is = e ∙ ap line_length rest in
     record { rest = rest; is = is; within = omega (arith, is, line_within (drop from input)); long = long }
 
--- ---- many bytes at once: whether a newline is among them
-abbrev pub has_newline : List ℕ → Bool
-has_newline bytes = ltb (line_length bytes) (length bytes)
-
--- at a newline, at another byte and at the end
-pub newline_found : (found : Bool) (bytes : List ℕ) (at : ℕ) → at < length bytes → get_or bytes at 0 ≡ newline → found || has_newline (drop at bytes) ≡ true
-newline_found true bytes at h e = refl
-newline_found false bytes at h e = rw (at_newline bytes at h e) (lt-ltb 0 (length (drop at bytes)) (simp length-drop (omega arith)))
-
-pub none_found : (found : Bool) (bytes : List ℕ) (at : ℕ) → at < length bytes → (get_or bytes at 0 ≡ newline → ⊥) → found || has_newline (drop at bytes) ≡ found || has_newline (drop (suc at) bytes)
-unfolding line_length
-none_found found bytes at h other = rw (drop-cons bytes at 0 h, ne_eqb (get_or bytes at 0) newline other, leb-suc-suc)
-
-pub all_looked : (found : Bool) (bytes : List ℕ) (at : ℕ) → length bytes ≤ at → found || has_newline (drop at bytes) ≡ found
-unfolding line_length
-all_looked true bytes at h = refl
-all_looked false bytes at h = rw (drop_of_length-le bytes h)
+-- ---- many bytes at once
+abbrev ends_line : ℕ → Bool
+ends_line byte = byte == newline
 
 -- bytes with no newline among them stand before whatever follows
-before_rest : (n : ℕ) (bytes : List ℕ) → n ≤ length bytes → length (take n bytes) ≤ line_length (take n bytes) → line_length bytes ≡ n + line_length (drop n bytes)
+pub none_among : (n : ℕ) (bytes : List ℕ) → n ≤ length bytes → list_any ends_line (take n bytes) ≡ false → line_length bytes ≡ n + line_length (drop n bytes)
 unfolding line_length
-before_rest zero bytes h k = omega arith
-before_rest (suc n) [] h k = absurd (omega arith)
-before_rest (suc n) (byte ∷ bytes) h k = go (eqb byte newline) (before_rest n bytes (omega arith)) k
+none_among zero bytes h e = omega arith
+none_among (suc n) [] h e = absurd (omega arith)
+none_among (suc n) (byte ∷ bytes) h e = go (eqb byte newline) e (λ k. none_among n bytes (omega arith) k)
   where
-    go : (ends : Bool) → (length (take n bytes) ≤ line_length (take n bytes) → line_length bytes ≡ n + line_length (drop n bytes))
-        → suc (length (take n bytes)) ≤ cond ends zero (suc (line_length (take n bytes)))
+    go :
+        (ends : Bool) → ends || list_any ends_line (take n bytes) ≡ false
+        → (list_any ends_line (take n bytes) ≡ false → line_length bytes ≡ n + line_length (drop n bytes))
         → cond ends zero (suc (line_length bytes)) ≡ suc n + line_length (drop n bytes)
-    go true later k = absurd (omega arith)
-    go false later k = let e = later (omega arith) in omega arith
+    go true e later = cc
+    go false e later = let k = later e in omega arith
 
-pub none_among : (n : ℕ) (bytes : List ℕ) → n ≤ length bytes → has_newline (take n bytes) ≡ false → line_length bytes ≡ n + line_length (drop n bytes)
-none_among n bytes h e = before_rest n bytes h (ltb-false _ _ e)
+-- the place of the first newline, or the end
+line_is : (bytes : List ℕ) → line_length bytes ≡ position_or_len ends_line bytes
+unfolding line_length
+line_is = is_position_or_len line_length ends_line refl (λ byte bytes. ap (cond (eqb byte newline) zero) (omega arith))
+
+pub at_position : (bytes : List ℕ) → unwrap_or (position ends_line bytes) (length bytes) ≡ line_length bytes
+at_position bytes = go (ltb (position_or_len ends_line bytes) (length bytes)) refl
+  where
+    go : (b : Bool) → ltb (position_or_len ends_line bytes) (length bytes) ≡ b → unwrap_or (cond b (Some (position_or_len ends_line bytes)) None) (length bytes) ≡ line_length bytes
+    go true e = sym (line_is bytes)
+    go false e = omega (arith, ltb-false _ _ e, line_within bytes, line_is bytes)
 
 -- ---- what is kept of a row
 pub kept_whole : (bytes : List ℕ) → length bytes ≤ 103 → kept bytes ≡ bytes

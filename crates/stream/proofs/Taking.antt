@@ -5,7 +5,7 @@ use mathlib.Core.Bool.{Bool, true, false, cond}
 use mathlib.Core.List.{List, [], ◌∷◌, ◌++◌, append-nil, append_assoc}
 use native.Mathlib.Omega.{arith}
 use native.Mathlib.Numerals.{add-one}
-use native.Mathlib.Nat.{add-zero, zero-add, add_assoc, sub-zero, add-sub_cancel_left}
+use native.Mathlib.Nat.{add-zero, zero-add, add_assoc, sub-zero}
 use borrow.Author.Tests.{lt-ltb, le-ltb, le-leb}
 use lib.Dec.{eqb}
 use lib.ListN.{length, take, drop, length-append, length-drop, take-append-drop}
@@ -95,9 +95,8 @@ placed output at row written fits r e =
     }
 
 -- a row that is read where it stands is the one that would be kept
-pub whole_line : (s : Sheet) (rest : List ℕ) (from n : ℕ) → perform s (read_row (kept (take n rest))) ≡ perform s (read_row (take (from + n - from) rest))
-whole_line s rest from n =
-    ap (perform s) (read_kept (take n rest) ∙ ap (λ (k : ℕ). read_row (take k rest)) (sym (add-sub_cancel_left from n)))
+pub whole_line : (s : Sheet) (row : List ℕ) → perform s (read_row (kept row)) ≡ perform s (read_row row)
+whole_line s row = ap (perform s) (read_kept row)
 
 -- ---- a piece, row after row
 pub begins : (output input : List ℕ) (s : Sheet) (begun : List ℕ) → Midway (feed (length output) s begun input) output input s begun 0 0 output

@@ -8,9 +8,9 @@ use Rattle.stream.proofs.Bounds.{left_record, left_within}
 use Rattle.day_sheet.proofs.main.Goals.{After-answer_block-fed}
 use Rattle.day_sheet.proofs.main.Goals as goal
 
-pub loop-turns-init : goal.loop-turns-init
+pub pieces-init : goal.pieces-init
 unfolding first record_tests
-loop-turns-init c = (omega arith, refl, (refl, refl))
+pieces-init c = (refl, (refl, refl))
 
 fits : (c : After-answer_block-fed) → c.answer_block-fed.result.written ≤ length c.answer_block-fed.new.output
 fits c = left_within _ _ c.answer_block-fed.ensures
@@ -21,6 +21,5 @@ slice_bounds-output-end c = fits (goal.at.slice_bounds-output-end c).After-answe
 pub slice_bounds-write_rows-end : goal.slice_bounds-write_rows-end
 slice_bounds-write_rows-end c = sym (length-take-le _ _ (fits (goal.at.slice_bounds-write_rows-end c).After-answer_block-fed))
 
-pub loop-turns-preserved : goal.loop-turns-preserved
-loop-turns-preserved c =
-    (omega arith, omega arith, left_record _ _ c.answer_block-fed.ensures)
+pub pieces-preserved : goal.pieces-preserved
+pieces-preserved c = (omega arith, left_record _ _ c.answer_block-fed.ensures)

@@ -1,15 +1,14 @@
 -- `cp_swap::day_sheet::cp_swap_day_sheet` meets its contract.
-use Rattle.cp_swap.proofs.SheetStores.{piece_refused, piece_stored}
+use mathlib.Core.Path.{refl}
+use Rattle.cp_swap.proofs.SheetStores.{piece_stored}
 use Rattle.cp_swap.proofs.day_sheet.cp_swap_day_sheet.Goals as goal
 
-pub returns-then-number-ne-ACCEPTED : goal.returns-then-number-ne-ACCEPTED
-returns-then-number-ne-ACCEPTED c =
+pub returns-in-Ok : goal.returns-in-Ok
+returns-in-Ok c =
     let a = c.args in
-    piece_refused a.pool.now a.ring.now a.sheet.now a.held.now a.output.now a.progress.now a.input.now
-    c.going_of.ensures c.feed-fed.ensures c.if-number-ne-ACCEPTED.true
+    rw c.sheet_words.ensures (piece_stored a.pool.now a.ring.now a.sheet.now a.held.now a.output.now a.progress.now a.input.now c.going_of.ensures c.in-Ok.ensures)
 
-pub returns : goal.returns
-returns c =
+pub returns-in-Err : goal.returns-in-Err
+returns-in-Err c =
     let a = c.args in
-    piece_stored a.pool.now a.ring.now a.sheet.now a.held.now a.output.now a.progress.now a.input.now
-    c.going_of.ensures c.feed-fed.ensures c.if-number-ne-ACCEPTED.false c.sheet_words.ensures
+    rw c.number.ensures (piece_stored a.pool.now a.ring.now a.sheet.now a.held.now a.output.now a.progress.now a.input.now c.going_of.ensures c.in-Err.ensures)

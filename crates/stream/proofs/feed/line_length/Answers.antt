@@ -1,25 +1,19 @@
--- `stream::feed::line_length` meets its contract. The loop's invariant: the bytes passed, and the line that is left of the others.
-use native.Mathlib.Numerals.{add-one}
+-- `stream::feed::line_length` meets its contract: the bytes passed, and those before the first newline of the others.
+use Prim.Native.Nat.{◌-◌}
+use mathlib.Core.Path.{◌≡◌, ap, ◌∙◌}
 use native.Mathlib.Omega.{arith}
-use Rattle.stream.proofs.Lines.{past_byte, at_newline, at_end}
+use lib.ListN.{length, take, drop}
+use Rattle.std.specs.Prelude.{unwrap_or}
+use Rattle.std.proofs.lemmas.List.{take_rest}
+use Rattle.stream.specs.Stages.{line_length}
+use Rattle.stream.proofs.Lines.{at_position}
 use Rattle.stream.proofs.feed.line_length.Goals as goal
 
-pub returns-then-bytes-at-eq10 : goal.returns-then-bytes-at-eq10
-returns-then-bytes-at-eq10 c =
-    let at = c.loop-at.at in
+pub returns-clause-is : goal.returns-clause-is
+returns-clause-is c =
     let bytes = c.args.bytes.now in
-    let e = at_newline bytes at (omega arith) c.if-bytes-at-eq10.true in
-    omega arith
-
-pub loop-at-preserved : goal.loop-at-preserved
-loop-at-preserved c =
-    let at = c.loop-at.at in
-    let bytes = c.args.bytes.now in
-    let e = past_byte bytes at (omega arith) c.if-bytes-at-eq10.false in
-    rw (add-one at) (omega arith)
-
-pub returns : goal.returns
-returns c =
-    let at = c.loop-at.at in
-    let e = at_end c.args.bytes.now at (omega arith) in
-    omega arith
+    let passed = c.pass_row-passed.result in
+    let rest = take (length bytes - passed) (drop passed bytes) in
+    let left : c.unwrap_or.result ≡ line_length (drop passed bytes) =
+    c.unwrap_or.ensures ∙ ap (λ at. unwrap_or at (length rest)) c.first_newline.ensures ∙ at_position rest ∙ ap line_length (take_rest bytes passed) in
+    omega (arith, left, c.pass_row-passed.ensures)

@@ -5,5 +5,4 @@ use Rattle.stream.proofs.Lines.{none_among}
 use Rattle.stream.proofs.feed.pass_row.Goals as goal
 
 pub returns : goal.returns
-returns c =
-    none_among 102 c.args.bytes.now (omega arith) (sym c.has_newline.ensures ∙ c.if-has_newline.false)
+returns c = none_among 102 c.args.bytes.now (omega arith) (sym c.contains.ensures.value ∙ c.if-contains.false)

@@ -1,28 +1,18 @@
 -- `stream::feed::whole_rows` meets its contract. The loop's invariant: the rows up to a place are answered, and the others have still to be.
-use Prim.Native.Nat.{◌+◌, ◌^◌, ◌≤◌, ◌<◌}
+use Prim.Native.Nat.{◌+◌, ◌≤◌, ◌<◌}
 use mathlib.Core.Path.{ap, ◌∙◌}
 use mathlib.Core.List.{[]}
 use native.Mathlib.Omega.{arith}
 use native.Mathlib.Nat.{sub_self}
-use lib.ListN.{length, drop}
+use lib.ListN.{length, take, drop}
 use Rattle.stream.proofs.Lines.{Line, line_found}
 use Rattle.stream.proofs.Taking.{whole_line, next_row, no_more_room, no_more_lines}
-use Rattle.stream.proofs.feed.whole_rows.Goals.{After-line_length-n, Else-n-bytes, In-loop-output}
+use Rattle.stream.proofs.feed.whole_rows.Goals.{After-line_length-n, Else-n-bytes}
 use Rattle.stream.proofs.feed.whole_rows.Goals as goal
 
--- there is room for another row, and no place is past 2^64 − 1
-room : (c : In-loop-output)
-    → (c.loop-output.written + 103 ≤ length c.loop-output.output)
-    × (length c.loop-output.output < 2 ^ 64)
-    × (length c.args.input.now < 2 ^ 64)
-room c = omega arith
-
 -- the bytes that are left, and how many stand before the next newline
-found : (c : After-line_length-n)
-    → Line c.args.input.now c.loop-output.next c.line_length-n.result
-found c =
-    line_found c.args.input.now c.loop-output.next c.line_length-n.result
-    c.line_length-n.ensures
+found : (c : After-line_length-n) → Line c.args.input.now c.loop-output.from c.line_length-n.result
+found c = line_found c.args.input.now c.loop-output.from c.line_length-n.result c.line_length-n.ensures.is
 
 pub returns-then-n-bytes-clause-through : goal.returns-then-n-bytes-clause-through
 returns-then-n-bytes-clause-through c =
@@ -31,37 +21,16 @@ returns-then-n-bytes-clause-through c =
     λ whole before m.
     let k = c.loop-output.invariant.3 whole before m in
     rw line.rest
-    (no_more_lines whole before c.args.input.now _ [] c.loop-output.next c.loop-output.written c.loop-output.output k (omega arith) (omega (arith, k.fills.long))
+    (no_more_lines whole before c.args.input.now _ [] c.loop-output.from c.loop-output.written c.loop-output.output k (omega arith) (omega (arith, k.fills.long))
     c.loop-output.invariant.0 (omega (arith, line.is, line.long)))
 
 -- a newline is among them
-ends : (c : Else-n-bytes) → c.line_length-n.result < length (drop c.loop-output.next c.args.input.now)
+ends : (c : Else-n-bytes) → c.line_length-n.result < length (drop c.loop-output.from c.args.input.now)
 ends c = let line = found (goal.at.Else-n-bytes c).After-line_length-n in omega (arith, line.within, ap length line.rest)
 
 -- the row with its newline is within the input
-fits : (c : Else-n-bytes) → c.loop-output.next + (c.line_length-n.result + 1) ≤ length c.args.input.now
+fits : (c : Else-n-bytes) → c.loop-output.from + (c.line_length-n.result + 1) ≤ length c.args.input.now
 fits c = omega (arith, ends c, (found (goal.at.Else-n-bytes c).After-line_length-n).long)
-
-pub overflow_add-next : goal.overflow_add-next
-overflow_add-next c =
-    let here = goal.at.overflow_add-next c in
-    omega (arith, fits here.Else-n-bytes, room here.In-loop-output)
-
-pub answer-after-requires : goal.answer-after-requires
-answer-after-requires c =
-    let here = goal.at.answer-after-requires c in
-    let long = fits here.Else-n-bytes in
-    (c.loop-output.invariant.4, omega (arith, long), omega (arith, long))
-
-pub overflow_add-next-in-loop-output : goal.overflow_add-next-in-loop-output
-overflow_add-next-in-loop-output c =
-    let here = goal.at.overflow_add-next-in-loop-output c in
-    omega (arith, fits here.Else-n-bytes, room here.In-loop-output)
-
-pub overflow_add-next-in-loop-output-2 : goal.overflow_add-next-in-loop-output-2
-overflow_add-next-in-loop-output-2 c =
-    let here = goal.at.overflow_add-next-in-loop-output-2 c in
-    omega (arith, fits here.Else-n-bytes, room here.In-loop-output)
 
 pub loop-output-preserved : goal.loop-output-preserved
 loop-output-preserved c =
@@ -69,21 +38,22 @@ loop-output-preserved c =
     let line = found here.After-line_length-n in
     let n = c.line_length-n.result in
     let input = c.args.input.now in
-    let after = c.answer-after.new.output in
-    let same = c.answer-after.auto.output in (
+    let left = c.answer-rates.new in
+    let same = c.answer-rates.auto.output in (
       fits here.Else-n-bytes,
-      omega (arith, room here.In-loop-output, same),
+      omega (arith, same),
       same ∙ c.loop-output.invariant.2,
       (λ whole before m.
           let k = c.loop-output.invariant.3 whole before m in
-          next_row whole before input _ [] c.loop-output.next c.loop-output.written c.loop-output.output k n _ c.answer-after.result c.answer-after.new.pool c.answer-after.new.ring after
-          (omega arith) (omega (arith, k.fills.long, room here.In-loop-output)) line.is (ends here.Else-n-bytes) (whole_line _ (drop c.loop-output.next input) c.loop-output.next n) c.answer-after.ensures),
-      c.answer-after.ensures.is_record,
+          next_row whole before input _ [] c.loop-output.from c.loop-output.written c.loop-output.output k n _ c.answer-rates.result left.pool left.ring left.output
+          (omega arith) (omega (arith, k.fills.long)) line.is (ends here.Else-n-bytes) (whole_line _ (take n (drop c.loop-output.from input)))
+          (rw line.rest at c.answer-rates.ensures)),
+      c.answer-rates.ensures.is_record,
     )
 
 pub returns-clause-through : goal.returns-clause-through
 returns-clause-through c =
     λ whole before m.
     let k = c.loop-output.invariant.3 whole before m in
-    rw (sub_self c.loop-output.next)
-    (no_more_room whole before c.args.input.now _ [] c.loop-output.next c.loop-output.written c.loop-output.output k (omega (arith, k.fills.long)))
+    rw (sub_self c.loop-output.from)
+    (no_more_room whole before c.args.input.now _ [] c.loop-output.from c.loop-output.written c.loop-output.output k (omega (arith, k.fills.long)))

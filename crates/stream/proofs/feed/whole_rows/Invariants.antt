@@ -11,10 +11,10 @@ use Rattle.stream.proofs.feed.whole_rows.Given as goal
 
 abbrev pub invariant-loop-output : goal.invariant-loop-output
 invariant-loop-output l =
-    (l.next ≤ length l.input)
+    (l.from ≤ length l.input)
     × (l.written ≤ length l.output)
     × (length l.output ≡ length l.initial.output)
-    × ((whole : Fed) (before : List ℕ) → Midway whole before l.input (sheet_in l.initial.after l.initial.pool l.initial.ring) [] l.initial.next l.initial.written l.initial.output → Midway whole before l.input (sheet_in l.after l.pool l.ring) [] l.next l.written l.output)
+    × ((whole : Fed) (before : List ℕ) → Midway whole before l.input (sheet_in l.initial.rates l.initial.pool l.initial.ring) [] l.initial.from l.initial.written l.initial.output → Midway whole before l.input (sheet_in l.rates l.pool l.ring) [] l.from l.written l.output)
     × IsRecord l.pool
 
 abbrev pub decreases-loop-output : goal.decreases-loop-output
