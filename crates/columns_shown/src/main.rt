@@ -5,18 +5,14 @@
 use columns::format_column;
 use std::io;
 
-fn text(out: &impl Print, words: &[u8]) -> io::Result<()> {
-    out.write_all(words)
-}
-
 // A number in a column of the caller's row.
 fn show(out: &impl Print, row: &mut [u8], at: usize, value: u64) -> io::Result<()> {
-    text(out, b"part [")?;
+    out.write_all(b"part [")?;
     let part = format_column(row, at, value);
-    text(out, part)?;
-    text(out, b"] row [")?;
-    text(out, row)?;
-    text(out, b"]\n")
+    out.write_all(part)?;
+    out.write_all(b"] row [")?;
+    out.write_all(row)?;
+    out.write_all(b"]\n")
 }
 
 // Rows of 30 bytes: the first place, one within, the last, and past it.

@@ -1,7 +1,7 @@
 -- A day sheet over plain memory: what a piece and the end of the input leave, and the sheet's numbers and the progress, written where it is accepted.
 -- Assumes nothing.
 use Prim.Native.Nat.{ℕ}
-use mathlib.Core.Path.{◌≡◌, sym, ap, ◌∙◌}
+use mathlib.Core.Path.{◌≡◌, ap, ◌∙◌}
 use mathlib.Core.List.{List, [], ◌∷◌}
 use lib.ListN.{length, take}
 use Rattle.refusal.specs.Tests.{outcome}

@@ -14,29 +14,28 @@ use words::{POOL_WORDS, rates_of};
 // How many numbers a sheet has: the five rates and how many bytes are held.
 pub const SHEET_WORDS: usize = 6;
 
-// The place of how many bytes are held.
-const BEGUN_AT: usize = 5;
-
-// The rates and the bytes held that the caller's memory says.
+// The rates and the bytes held that the caller's memory says. Functions of this crate read and write it, as `words` does for the pool: `From` would have
+// to stand with `Going`.
 fn going_of(sheet: [u64; SHEET_WORDS]) -> Going
     ensures { result ≡ record { rates = rates_of sheet; begun = at sheet begun_at } }
 {
-    let begun = sheet[BEGUN_AT] as usize;
-    let rates = rates_of([sheet[0], sheet[1], sheet[2], sheet[3], sheet[4]]);
-    Going { rates, begun }
+    let [trade, protocol, fund, creator, share, begun] = sheet;
+    Going {
+        rates: rates_of([trade, protocol, fund, creator, share]),
+        begun: begun as usize,
+    }
 }
 
 fn sheet_words(rates: Rates, begun: usize) -> [u64; SHEET_WORDS]
     ensures { result ≡ sheet_words rates begun }
 {
-    let held = begun as u64;
     [
         rates.trade,
         rates.protocol,
         rates.fund,
         rates.creator,
         rates.share,
-        held,
+        begun as u64,
     ]
 }
 

@@ -26,7 +26,7 @@ pub struct Grid {
 }
 
 // The ring's head. `mark` is the original's last_update_timestamp. The entries are lent beside it, five numbers each.
-#[derive(Clone, Copy)]
+#[derive(Clone, Copy, Default)]
 pub struct Ring {
     pub index: u64,
     pub mark: u64,

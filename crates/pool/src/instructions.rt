@@ -9,9 +9,8 @@ ghost use Rattle.pool.specs.Calls.{zero_pool, opening as opening_of, decision_of
 use crate::state::{After, Decision, Opened, Pool};
 use curve::constant_product::{LpTokens, TradingTokens};
 use liquidity::decide as decide_change;
-use opening::{Opening, decide as decide_opening, refuse_opening};
+use opening::{Opening, decide as decide_opening};
 use oracle::{RING_WORDS, store};
-use refusal::ACCEPTED;
 use settlement::decide as decide_settlement;
 use status::decide as decide_status;
 use swap::decide as decide_swap;
@@ -21,8 +20,7 @@ impl Pool {
     pub fn zero() -> Pool
         ensures { result ≡ zero_pool }
     {
-        let zeros = refuse_opening(ACCEPTED);
-        Pool::start(zeros.books, zeros.terms, zeros.grid)
+        Pool::default()
     }
 
     // A new pool, and the ring's entries.

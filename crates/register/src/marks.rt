@@ -61,7 +61,8 @@ fn mark_of(number: u64, salt: u64) -> usize
     (again * (again % LOWEST) / MIDDLE) as usize % MARKS
 }
 
-// Whether the number of an entry with a balance stands again behind it: by the links, which lead from each to the next of the same mark.
+// Whether the number of an entry with a balance stands again behind it: by the links, which lead from each to the next of the same mark,
+// so that no range counts them. Links and marks are arrays of places: nothing here allocates.
 fn stands_behind(entries: &[[u64; 2]], links: &[u16; MOST_HOLDERS], at: usize) -> bool
     requires { Linked links.now (holders_of entries.now) at }
     ensures { result ≡ some (is_of (slice_index_or (holders_of entries.now) at zero_holder).number) (drop (at + 1) (holders_of entries.now)) }

@@ -105,7 +105,11 @@ pub(crate) fn prices(row: &[u64; ROW_NUMBERS]) -> bool {
         Ok(prices) => {
             let price0 = prices.price0;
             let price1 = prices.price1;
-            same(row, 29, [0, price0.high, price0.low, price1.high, price1.low])
+            same(
+                row,
+                29,
+                [0, price0.high, price0.low, price1.high, price1.low],
+            )
         }
         Err(refusal) => refused_with(row, 29, refusal),
     }

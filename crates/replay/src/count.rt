@@ -14,20 +14,15 @@ pub struct Count {
     pub agree: u64,
 }
 
-fn text(out: &impl Print, words: &[u8]) -> io::Result<()> {
-    out.write_all(words)
-}
-
 // A number in 20 bytes: what is printed is the part that formatting hands back.
 fn number(out: &impl Print, value: u64) -> io::Result<()> {
     let mut row = [b'.'; 30];
     let part = format_column(&mut row, 5, value);
-    text(out, part)
+    out.write_all(part)
 }
 
 pub(crate) fn heading(out: &impl Print) -> io::Result<()> {
-    text(
-        out,
+    out.write_all(
         b"                kind                rows             altered               agree\n",
     )
 }
@@ -47,7 +42,7 @@ impl Count {
         number(out, self.rows)?;
         number(out, self.altered)?;
         number(out, self.agree)?;
-        text(out, b"\n")
+        out.write_all(b"\n")
     }
 
     // The count that goes on for a kind: the rows of a kind stand together.

@@ -19,7 +19,7 @@ use std::io::Read;
 // So many bytes are read at a time.
 const BLOCK_BYTES: usize = 65536;
 
-// Whether a row's answer is the one that is given.
+// Whether a row's answer is the one that is given. Most kinds are numbers of this file alone, which each function here names.
 fn agrees(row: &[u64; ROW_NUMBERS]) -> bool {
     let kind = nth(row, 0);
     match kind {

@@ -1,4 +1,4 @@
-// Decimal numbers with one blank between, a newline at the end of a row.
+// Decimal numbers with one blank between, a newline at the end of a row. A row is a fixed buffer with a count: nothing here allocates.
 use crate::row::ROW_NUMBERS;
 
 #[derive(Clone, Copy)]

@@ -1,4 +1,4 @@
-// The numbers of a row.
+// The numbers of a row. Each function says which places it reads: a type for a place would be made from a literal at each of them.
 ghost use Rattle.std.specs.Prelude.{◌<◌, ◌≤◌};
 
 use opening::Opening;

@@ -1,4 +1,5 @@
-// One piece of a day sheet's input (document 01, 'The day sheet').
+// One piece of a day sheet's input (document 01, 'The day sheet'). That the lent record is one is asked of the private functions, past one test: the
+// record is memory that C lends, and a type around it would be made at each of them.
 ghost use Rattle.std.specs.Prelude.{◌≡◌, List, [], ◌++◌, ℕ, ◌+◌, ◌-◌, ◌≤◌, length, replicate, take, drop, position, ◌==◌};
 ghost use Rattle.oracle.specs.Ring.{ring_words};
 ghost use Rattle.rows.specs.Row.{newline, row_bytes, read_row};
@@ -20,7 +21,7 @@ use sheet::turn::{amounts_of, perform};
 use words::{POOL_WORDS, RECEIPT_WORDS, holdings_of, receipt_of};
 
 // Between two pieces: the rates for the next opening, and how many bytes are held of a row that is begun.
-#[derive(Clone, Copy)]
+#[derive(Clone, Copy, Default)]
 pub struct Going {
     pub rates: Rates,
     pub begun: usize,
@@ -51,17 +52,11 @@ struct Rest {
 }
 
 // The empty sheet, with no row begun: record and ring are zeros.
+#[tactic(auto, unfolding(sheet::specs::Sheet::empty_sheet, pool::specs::Calls::zero_pool, pool::specs::Calls::zero_entries))]
 pub fn start() -> Going
     ensures { (sheet_in result.rates (replicate pool_length 0) (replicate ring_words 0) ≡ empty_sheet) × (result.begun ≡ 0) }
 {
-    let rates = Rates {
-        trade: 0,
-        protocol: 0,
-        fund: 0,
-        creator: 0,
-        share: 0,
-    };
-    Going { rates, begun: 0 }
+    Going::default()
 }
 
 // How many bytes can be passed over at once: those of a row where no newline is among so many, else none. `contains` takes many at a time.

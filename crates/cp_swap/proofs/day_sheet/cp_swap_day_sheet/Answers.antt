@@ -1,5 +1,4 @@
 -- `cp_swap::day_sheet::cp_swap_day_sheet` meets its contract.
-use mathlib.Core.Path.{refl}
 use Rattle.cp_swap.proofs.SheetStores.{piece_stored}
 use Rattle.cp_swap.proofs.day_sheet.cp_swap_day_sheet.Goals as goal
 
