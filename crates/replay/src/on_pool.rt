@@ -7,7 +7,7 @@ use calls::{Call, apply};
 use curve::constant_product::{LpTokens, TradingTokens};
 use oracle::RING_WORDS;
 use pool::state::{After, Pool};
-use receipt::{DEPOSIT, SETTLE_CREATOR_FEE, SWAP_BASE_INPUT, SWAP_BASE_OUTPUT, WITHDRAW};
+use receipt::Kind;
 use words::{POOL_WORDS, RECEIPT_WORDS, pool_words, receipt_words, stand_at};
 
 // Receipt and pool, as numbers, from a place on.
@@ -41,36 +41,35 @@ pub(crate) fn opening(row: &[u64; ROW_NUMBERS]) -> bool {
 
 // The row's call, of four arguments; those that it lacks are 0.
 fn call_of(row: &[u64; ROW_NUMBERS]) -> Call {
-    let kind = nth(row, 0);
     let a = nth(row, 2);
     let b = nth(row, 3);
     let c = nth(row, 4);
     let d = nth(row, 5);
-    match kind {
-        SWAP_BASE_INPUT => Call::SwapBaseInput {
+    match Kind::try_from(nth(row, 0)) {
+        Ok(Kind::SwapBaseInput) => Call::SwapBaseInput {
             direction: a,
             amount: b,
             minimum: c,
             clock: d,
         },
-        SWAP_BASE_OUTPUT => Call::SwapBaseOutput {
+        Ok(Kind::SwapBaseOutput) => Call::SwapBaseOutput {
             direction: a,
             amount: b,
             maximum: c,
             clock: d,
         },
-        DEPOSIT => Call::Deposit {
+        Ok(Kind::Deposit) => Call::Deposit {
             lp: LpTokens(a),
             maximum0: TradingTokens(b),
             maximum1: TradingTokens(c),
         },
-        WITHDRAW => Call::Withdraw {
+        Ok(Kind::Withdraw) => Call::Withdraw {
             lp: LpTokens(a),
             owned: LpTokens(b),
             minimum0: TradingTokens(c),
             minimum1: TradingTokens(d),
         },
-        SETTLE_CREATOR_FEE => Call::Settle { share: a },
+        Ok(Kind::SettleCreatorFee) => Call::Settle { share: a },
         _ => Call::SetStatus { bit: a, flag: b },
     }
 }
