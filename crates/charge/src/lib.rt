@@ -157,7 +157,7 @@ impl Charges {
         transfer(forward, of_token(zero, self.token0, self.token1), amount)
     }
 
-    // A transfer of each token; back, 14 where either can't be sent.
+    // A transfer of each token; back, 14 where either can't be sent. Inlined, so that a pool without charges lays nothing out.
     #[tactic(auto, using(crate::proofs::FarEnds::free_both, crate::proofs::FarEnds::first_refuses))]
     #[inline(always)]
     pub fn transfer_both(self, forward: bool, amount0: u64, amount1: u64) -> Result<Ends, Refusal>

@@ -7,6 +7,7 @@ ghost use Rattle.cp_swap.specs.DaySheet.{begun_at, sheet_words, sheet_memory, fe
 
 use oracle::RING_WORDS;
 use rates::Rates;
+use refusal::ACCEPTED;
 use rows::row::ROW_BYTES;
 use stream::feed::{Going, feed, finish};
 use words::{POOL_WORDS, rates_of};
@@ -55,7 +56,7 @@ pub fn cp_swap_day_sheet(
         Ok(fed) => {
             *sheet = sheet_words(fed.going.rates, fed.going.begun);
             *progress = [fed.taken as u64, fed.written as u64];
-            0
+            ACCEPTED
         }
         Err(refusal) => refusal.number(),
     }
@@ -76,7 +77,7 @@ pub fn cp_swap_day_sheet_end(
         Ok(ended) => {
             *sheet = sheet_words(ended.rates, 0);
             *progress = [0, ended.written as u64];
-            0
+            ACCEPTED
         }
         Err(refusal) => refusal.number(),
     }

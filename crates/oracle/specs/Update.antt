@@ -1,4 +1,4 @@
--- What the cases of `Update` stand for, and the ring's update as the code answers it: a number, the head, and what the entries then hold.
+-- What the cases of `Update` stand for, and the ring's update whole: a number, the head, and what the entries then hold.
 use Rattle.std.specs.Prelude.{Result, Ok, Err, ℕ, cond}
 use Rattle.wide.specs.Value.{value}
 use Rattle.oracle.specs.declared.Ring.{Ring}

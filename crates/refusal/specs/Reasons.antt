@@ -22,6 +22,7 @@ number_of R.TransferFeeCalculateNotMatch = transfer_fee_calculate_not_match
 number_of R.LeftLpAmountTooLess = left_lp_amount_too_less
 number_of R.RegisterFull = register_full
 
+-- the reason of a number; of one that is no reason's, the last
 abbrev pub reason_of : ℕ → Reason
 reason_of n =
     cond (eqb n 1) R.NotApproved (

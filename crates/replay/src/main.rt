@@ -60,7 +60,7 @@ fn block(out: &impl Print, progress: Progress, bytes: &[u8]) -> io::Result<Progr
     Ok(Progress { reading, count })
 }
 
-// Standard input to its end, which is a block of no bytes. The turns only bound the loop.
+// Standard input to its end, which is a block of no bytes. The range only bounds the loop.
 fn read_all(input: &mut impl Read, out: &impl Print) -> io::Result<Count> {
     let mut progress = Progress {
         reading: Reading::new(),

@@ -18,6 +18,7 @@ fn is_short(amount: u64, whole: u64) -> bool
 // What is asked of rate and whole stands at each function below: a struct of the two would be made for one call each, and is no plainer.
 
 // (amount * rate + more) / whole: rounded down where no more is added, and up where one less than the whole is.
+// Inlined, so that the 0 of the one and the branch of the other are known.
 #[inline(always)]
 #[tactic(auto, using(crate::proofs::Shares::shared_is, crate::proofs::Shares::shared_fits))]
 fn share(amount: u64, rate: u64, whole: u64, more: u64) -> u64

@@ -20,8 +20,8 @@ pub struct Worth {
     pub amount1: TradingTokens,
 }
 
-// Both tokens' parts of an LP amount: none or an amount 0, 4; an amount past u64, 11. An amount is 0 exactly where its quotient is. Both tokens are
-// divided before the first test, and each pair of tests is one branch.
+// Both tokens' parts of an LP amount: none or an amount 0, 4; an amount past u64, 11. An amount is 0 exactly where its quotient is. A supply of
+// 0 is refused by the first division; past it both tokens are divided before the first test, and each pair of tests is one branch.
 #[tactic(auto, using(crate::proofs::Parts::undivided0, crate::proofs::Parts::undivided1, crate::proofs::Parts::none, crate::proofs::Parts::past))]
 pub fn token_amounts(
     lp: LpTokens,
