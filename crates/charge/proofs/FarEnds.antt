@@ -37,10 +37,6 @@ pub far_is : (forward : Bool) (c : Charge) (n : ℕ) {e : End} → transferred f
 unfolding transferred
 far_is forward c n h = stage_value (accepted_end forward c n) (far_tests forward c n) h
 
-pub ends_is : (forward : Bool) (c : Charges) (n0 n1 : ℕ) {e : Ends} → both_transferred forward c n0 n1 ≡ Ok e → accepted_ends forward c n0 n1 ≡ e
-unfolding both_transferred
-ends_is forward c n0 n1 h = stage_value (accepted_ends forward c n0 n1) (both_tests forward c n0 n1) h
-
 -- ---- one of each token
 -- the second's answer for both
 abbrev second : Result Ends ℕ → Result End ℕ → Result Ends ℕ
