@@ -39,14 +39,14 @@ pub struct Charged {
     pub charge1: u64,
 }
 
-// A transfer seen from one end: the amount at the other, and the charge.
+// A transfer seen from one end: the amount at the other, and the charge. From which end is a flag, which the definition `transferred` takes.
 #[derive(Clone, Copy)]
 pub struct End {
     pub amount: u64,
     pub charge: u64,
 }
 
-// One of each token.
+// One of each token, with the charges together, as a receipt shows them.
 #[derive(Clone, Copy)]
 pub struct Ends {
     pub amount0: u64,

@@ -41,6 +41,7 @@ fn floor_div(amount: u64, rate: u64) -> Answer
     from_quotient(fee, Refusal::ZERO_TRADING_TOKENS, Refusal::MATH_OVERFLOW)
 }
 
+// Each of the five fees has a function under the original's name, as the papers do.
 pub fn trading_fee(amount: u64, trade_fee_rate: u64) -> Answer
     ensures { result ≡ trading_fee amount trade_fee_rate }
 {

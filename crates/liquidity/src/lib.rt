@@ -167,7 +167,8 @@ fn change(
     withdraw(charges, books, lp, paid, limits)
 }
 
-// A deposit with two maximums, or a withdrawal with the owner's LP and two minimums. A refusal leaves the books as they were.
+// A deposit with two maximums, or a withdrawal with the owner's LP and two minimums, by a flag of the definition `change_after`. A refusal leaves the
+// books as they were.
 #[tactic(auto, using(crate::proofs::Decision::accepted, crate::proofs::Decision::refused))]
 pub fn decide(
     is_deposit: bool,

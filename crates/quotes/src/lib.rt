@@ -127,6 +127,7 @@ impl Swap {
 }
 
 // The front, on the amount itself; the amount at the vault, 10 where nothing is; the nets; the calculator's answer; the limit, on the solver's side.
+// The call's arguments stay apart, as the definitions and document 01 list them, here as in `swap` and `pool`; whether by input is a flag of theirs.
 pub fn quote_swap(
     by_input: bool,
     terms: Terms,

@@ -31,7 +31,7 @@ fn enter(holders: &mut [u64], change: Change)
     holders[first + 1] = change.entry.balance;
 }
 
-// The list is set to zeros, and the opener is entered first.
+// The list is set to zeros, and the opener is entered first: over plain numbers, as C lends them; `holders` has the same over its structs.
 #[tactic(auto, using(crate::proofs::Written::opener_first))]
 fn enter_opener(holders: &mut [u64], opener: Holder)
     requires { 0 < length (entries_of holders.old) }

@@ -58,6 +58,7 @@ pub(crate) fn amount(row: &[u64; ROW_NUMBERS]) -> bool {
     }
 }
 
+// As the row says; worth's rounding goes by what is asked.
 fn rounding(up: bool) -> RoundDirection {
     if up {
         RoundDirection::Ceiling

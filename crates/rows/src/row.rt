@@ -69,7 +69,8 @@ pub fn write_row(out: &mut [u8; ROW_BYTES], row: Row)
     fill_row(out, row);
 }
 
-// A row with its newline at a place of a longer text; in a text too short for it nothing is written.
+// A row with its newline at a place of a longer text; in a text too short for it nothing is written. `write_row`
+// is lent a row's bytes exactly, and can't fail.
 #[tactic(auto, using(crate::proofs::RowWritten::no_room, crate::proofs::RowWritten::has_place, crate::proofs::RowWritten::row_put_back))]
 pub fn write_row_at(text: &mut [u8], at: usize, row: Row) -> bool
     ensures { (result ≡ has_room text.old at row_bytes) × (text.new ≡ with_row text.old at (write_row row.kind row.a row.b row.c row.d row.e)) }
