@@ -27,6 +27,7 @@ pub struct SwapResult {
 }
 
 // A swap's rates, which are within the limits, and the nets it is made between.
+// Its steps are inlined, so that no swap has to stand in memory for one.
 #[derive(Clone, Copy)]
 struct Swap {
     rates: Rates,
@@ -51,6 +52,7 @@ fn pre_fee(amount: u64, rate: u64) -> Result<u64, Refusal>
 
 impl Swap {
     // Protocol and fund fee are shares of the trade fee.
+    #[inline(always)]
     #[tactic(auto, unfolding(crate::specs::Calculator::charged, fees::specs::Fees::fee_down))]
     fn charge(self, input: u64, output: u64, trade: u64, creator: u64) -> SwapResult
         ensures { result ≡ charged self.rates input output trade creator }
@@ -67,7 +69,7 @@ impl Swap {
         }
     }
 
-    // Fee on input: the creator's part of the total fee by the split, the rest is trade fee. Inlined, so that no swap has to stand in memory for it.
+    // Fee on input: the creator's part of the total fee by the split, the rest is trade fee.
     #[inline(always)]
     #[tactic(auto, using(fees::proofs::Shares::split_le), unfolding(crate::specs::Stages::charged_split))]
     fn charge_split(self, input: u64, output: u64, total: u64) -> SwapResult
@@ -78,6 +80,7 @@ impl Swap {
     }
 
     // What the curve gives for an input after fees; a net of 0, 11. It is never past the net, so the one long division has a quotient of 64 bits.
+    #[inline(always)]
     #[tactic(auto, unfolding(curve::specs::ConstantProduct::swap_out))]
     fn swap_out(self, input: u64) -> Result<u64, Refusal>
         ensures { result ≡ curve_answer self.net_in self.net_out input }
@@ -90,6 +93,7 @@ impl Swap {
     }
 
     // Fee on input: total fee at trade plus creator rate.
+    #[inline(always)]
     #[tactic(auto, using(math::proofs::Rounding::share_ceil_le), unfolding(crate::specs::Stages::input_stage, crate::specs::Calculator::swap_base_input, crate::specs::Stages::charged_split, fees::specs::Fees::fee_up))]
     fn input_with_fee_on_input(self, amount: u64) -> Result<SwapResult, Refusal>
         ensures { result ≡ input_stage true self.rates self.creator_rate self.net_in self.net_out amount }
@@ -101,6 +105,7 @@ impl Swap {
     }
 
     // Fee on output: trade fee on input, creator fee on the curve's output.
+    #[inline(always)]
     #[tactic(auto, using(math::proofs::Rounding::share_ceil_le), unfolding(crate::specs::Stages::input_stage, crate::specs::Calculator::swap_base_input, fees::specs::Fees::fee_up))]
     fn input_with_fee_on_output(self, amount: u64) -> Result<SwapResult, Refusal>
         ensures { result ≡ input_stage false self.rates self.creator_rate self.net_in self.net_out amount }
@@ -112,6 +117,7 @@ impl Swap {
     }
 
     // Fee on input: the curve gives the output itself, and what it asks is the input after both fees.
+    #[inline(always)]
     #[tactic(auto, using(crate::proofs::Swaps::pre_fee_ge), unfolding(crate::specs::Stages::output_stage, crate::specs::Calculator::quote_tests, crate::specs::Calculator::swap_base_output, crate::specs::Calculator::with_fees, crate::specs::Calculator::charged, crate::specs::Calculator::curve_output, crate::specs::Calculator::curve_input, curve::specs::ConstantProduct::swap_base_output_without_fees, curve::specs::ConstantProduct::swap_in, refusal::specs::Tests::outcome, crate::specs::Stages::charged_split))]
     fn output_with_fee_on_input(self, amount: u64) -> Result<SwapResult, Refusal>
         ensures { result ≡ output_stage true self.rates self.creator_rate self.net_in self.net_out amount }
@@ -122,6 +128,7 @@ impl Swap {
     }
 
     // Fee on output: the curve gives the output with its creator fee, and what it asks is the input after the trade fee.
+    #[inline(always)]
     #[tactic(auto, using(crate::proofs::Swaps::pre_fee_ge), unfolding(crate::specs::Stages::output_stage, crate::specs::Calculator::quote_tests, crate::specs::Calculator::swap_base_output, crate::specs::Calculator::with_fees, crate::specs::Calculator::charged, crate::specs::Calculator::curve_output, crate::specs::Calculator::curve_input, curve::specs::ConstantProduct::swap_base_output_without_fees, curve::specs::ConstantProduct::swap_in, refusal::specs::Tests::outcome))]
     fn output_with_fee_on_output(self, amount: u64) -> Result<SwapResult, Refusal>
         ensures { result ≡ output_stage false self.rates self.creator_rate self.net_in self.net_out amount }
@@ -134,6 +141,7 @@ impl Swap {
 }
 
 // Swap by input: what an amount gives after fees. Its parameters, here and below, are those of the definition `input_answer`.
+#[inline(always)]
 #[tactic(auto, unfolding(crate::specs::Calculator::input_answer, rates::specs::Rates::rate_limits, refusal::specs::Tests::tested))]
 pub fn swap_base_input(
     fee_on_input: bool,
@@ -160,6 +168,7 @@ pub fn swap_base_input(
 }
 
 // Swap by output: what an amount asks with fees.
+#[inline(always)]
 #[tactic(auto, unfolding(crate::specs::Calculator::output_answer, rates::specs::Rates::rate_limits, refusal::specs::Tests::tested))]
 pub fn swap_base_output(
     fee_on_input: bool,

@@ -111,6 +111,7 @@ pub fn get_transfer_inverse_fee(charge: Charge, post_fee_amount: u64) -> Answer
 
 // Forward: an amount is sent, and the other end is what arrives. Back: an amount is to arrive, and the other end is the least sent for it.
 #[tactic(auto, using(crate::proofs::Rest::charge_is_for, crate::proofs::Rest::charge_le), unfolding(crate::specs::Transfers::transferred, crate::specs::Charge::rest_of, crate::specs::Charge::inverse_fee, crate::specs::Charge::least_sent, refusal::specs::Tests::outcome))]
+#[inline(always)]
 pub fn transfer(forward: bool, charge: Charge, amount: u64) -> Result<End, Refusal>
     ensures { result ≡ transferred forward charge amount }
 {
@@ -148,6 +149,7 @@ impl Charges {
 
     // One token's transfer.
     #[tactic(auto, using(crate::proofs::FarEnds::free_one))]
+    #[inline(always)]
     pub fn transfer_one(self, zero: bool, forward: bool, amount: u64) -> Result<End, Refusal>
         ensures { result ≡ transferred forward (of_token zero self.token0 self.token1) amount }
     {

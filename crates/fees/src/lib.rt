@@ -75,6 +75,7 @@ pub fn creator_fee_shared_amount(amount: u64, share_rate: u64) -> Answer
 
 // The creator's part of a fee that was taken at both rates together: 0 at a creator rate of 0, so also where both rates are 0 (document 02
 // (a)). It is at most the fee, so it fits at any rates. Narrow ones take no 128-bit division.
+#[inline(always)]
 #[tactic(auto, unfolding(crate::specs::Fees::split))]
 pub fn creator_part(total_fee: u64, trade_fee_rate: u64, creator_fee_rate: u64) -> u64
     ensures { result ≡ split total_fee trade_fee_rate creator_fee_rate }

@@ -25,6 +25,7 @@ pub struct Quote {
 }
 
 // Which of the two swaps it is, which token goes in (true is token 0), and on which terms.
+// Its steps are inlined, so that it stands in registers.
 #[derive(Clone, Copy)]
 struct Swap {
     by_input: bool,
@@ -33,6 +34,7 @@ struct Swap {
 }
 
 // Both swaps' front: rate limits 3; bit 2 set or clock before open time, 1; amount 0, 10; direction 5.
+// Two lists, not one: the compiler lays a list of four out in memory, and then reads the whole record before the first test.
 fn check_front(
     terms: Terms,
     status: u64,
@@ -46,6 +48,8 @@ fn check_front(
     refuse_if(&[
         (status / 4 % 2 == 1, Refusal::NOT_APPROVED),
         (clock < terms.open_time, Refusal::NOT_APPROVED),
+    ])?;
+    refuse_if(&[
         (amount == 0, Refusal::REQUIRE_VIOLATED),
         (direction > 1, Refusal::INVALID_VAULT),
     ])
@@ -91,6 +95,7 @@ impl Swap {
     }
 
     // The named amount at the vault: by input what arrives of it; by output what leaves the vault for it, 14 where no u64 has it as its rest.
+    #[inline(always)]
     #[tactic(auto, using(crate::proofs::Sides::near_is))]
     fn move_near(self, amount: u64) -> Result<End, Refusal>
         ensures { result ≡ transferred self.by_input (near_charge self.by_input self.terms self.zero_in) amount }
@@ -100,6 +105,7 @@ impl Swap {
     }
 
     // What the swap finds at the vault on the solver's side: by input what he receives; by output what he sends, 14 where no u64 leaves it.
+    #[inline(always)]
     #[tactic(auto, using(crate::proofs::Sides::far_is))]
     fn move_far(self, s: SwapResult) -> Result<End, Refusal>
         ensures { result ≡ transferred self.by_input (far_charge self.by_input self.terms self.zero_in) (of_token self.by_input s.output s.input) }
@@ -110,6 +116,7 @@ impl Swap {
     }
 
     // What the calculator answers on the amount at the vault.
+    #[inline(always)]
     fn calculate(self, nets: Nets, amount: u64) -> Result<SwapResult, Refusal>
         ensures { result ≡ answer_of self.by_input self.terms self.zero_in nets.net0 nets.net1 amount }
     {

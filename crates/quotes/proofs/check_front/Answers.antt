@@ -11,3 +11,7 @@ returns-in_err-check_limits c = search rules
 pub returns : goal.returns
 unfolding rate_limits tested ◌then◌
 returns c = search rules
+
+pub returns-in_err-refuse_if : goal.returns-in_err-refuse_if
+unfolding rate_limits tested ◌then◌
+returns-in_err-refuse_if c = search rules
