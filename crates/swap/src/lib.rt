@@ -50,7 +50,11 @@ impl Swap {
     {
         let s = self.quote.result;
         Receipt {
-            kind: of_token(self.by_input, Kind::SwapBaseInput as u64, Kind::SwapBaseOutput as u64),
+            kind: of_token(
+                self.by_input,
+                Kind::SwapBaseInput as u64,
+                Kind::SwapBaseOutput as u64,
+            ),
             paid: Paid {
                 in0: of_token(self.zero_in, s.input, 0),
                 in1: of_token(self.zero_in, 0, s.input),
