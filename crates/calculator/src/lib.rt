@@ -26,7 +26,8 @@ pub struct SwapResult {
     pub creator: u64,
 }
 
-// A swap's rates, which are within the limits, and the nets it is made between.
+// A swap's rates, which are within the limits, and the nets it is made between. It has four ways, by fee side and by direction: their steps differ in kind
+// and in order, so that one with two flags would be no plainer.
 // Its steps are inlined, so that no swap has to stand in memory for one.
 #[derive(Clone, Copy)]
 struct Swap {
@@ -140,7 +141,8 @@ impl Swap {
     }
 }
 
-// Swap by input: what an amount gives after fees. Its parameters, here and below, are those of the definition `input_answer`.
+// Swap by input: what an amount gives after fees. Its parameters, here and below, are those of the definition `input_answer`. Both swaps keep the
+// original's names, and differ in what they call.
 #[inline(always)]
 #[tactic(auto, unfolding(crate::specs::Calculator::input_answer, rates::specs::Rates::rate_limits, refusal::specs::Tests::tested))]
 pub fn swap_base_input(

@@ -1,4 +1,5 @@
-// Numbers in columns of the day sheet: decimal, right-justified, blanks before, at least one digit.
+// Numbers in columns of the day sheet: decimal, right-justified, blanks before, at least one digit. Digits are read and written here, since the library's
+// reading takes a sign and zeros before, and its writing gives a text of its own length.
 #![tactic(auto)]
 
 ghost use Rattle.std.specs.Prelude.{◌≡◌, cond, ◌/◌, ◌%◌, eqb, length, position, not, ◌==◌};

@@ -14,7 +14,7 @@ use receipt::{BooksAfter, Kind, amounts_receipt, refuse_books};
 use refusal::{Refusal, refuse_if};
 use worth::worth_of;
 
-// An amount of each token.
+// An amount of each token, of whichever kind: what reaches a vault, leaves it, or is a limit.
 #[derive(Clone, Copy)]
 struct Pair {
     token0: TradingTokens,

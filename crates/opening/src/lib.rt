@@ -39,7 +39,7 @@ pub struct Opening {
     pub grid: Grid,
 }
 
-// What a pool begins with, and the receipt.
+// What a pool begins with, and the receipt, also of a refused opening (document 01; `After` of pool).
 #[derive(Clone, Copy, Default)]
 pub struct OpeningAfter {
     pub books: Books,

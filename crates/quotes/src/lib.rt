@@ -83,7 +83,8 @@ fn check_limit(by_input: bool, amount: u64, limit: u64) -> Result<(), Refusal>
 }
 
 impl Swap {
-    // The token of the amount that the caller names: by input the input's, by output the output's. true is token 0.
+    // The token of the amount that the caller names: by input the input's, by output the output's. true is token 0. The creator fee's token is chosen
+    // alike, by another flag.
     fn near_token(self) -> bool
         ensures { result ≡ near_token self.by_input self.zero_in }
     {

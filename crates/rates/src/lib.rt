@@ -33,7 +33,7 @@ pub struct Terms {
 // The highest that trade and creator rate may sum to.
 const HIGHEST_FEE_RATE: u64 = 999_999;
 
-// Fee model 0 means input always, 1 input if token 0 goes in, 2 input if token 1 goes in.
+// Fee model 0 means input always, 1 input if token 0 goes in, 2 input if token 1 goes in. A record may hold any number.
 #[tactic(auto, unfolding(crate::specs::Rates::on_input))]
 pub fn is_creator_fee_on_input(fee_model: u64, zero_in: bool) -> bool
     ensures { result ≡ on_input fee_model zero_in }

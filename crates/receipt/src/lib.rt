@@ -85,14 +85,14 @@ pub struct Shared {
     pub shared1: u64,
 }
 
-// What a call comes to that changes the books alone: the books after it, and its receipt.
+// What a call comes to that changes the books alone: the books after it, and its receipt, also of a refused call (document 01; `After` of pool).
 #[derive(Clone, Copy)]
 pub struct BooksAfter {
     pub books: Books,
     pub receipt: Receipt,
 }
 
-// A refused call's receipt: its number and zeros.
+// A refused call's receipt: its number and zeros. Here and below a number or a kind may be any, as it may in memory.
 #[tactic(auto, unfolding(crate::specs::Receipt::refusal))]
 pub fn refusal_receipt(number: u64) -> Receipt
     ensures { result ≡ refusal number }

@@ -1,4 +1,4 @@
-// The functions alone: kinds 10 to 34.
+// The functions alone: kinds 10 to 34, which are numbers of this file, each named by its function.
 ghost use Rattle.std.specs.Prelude.{◌≤◌};
 
 use crate::row::{ROW_NUMBERS, nth, pool_at, same};

@@ -39,7 +39,7 @@ pub(crate) fn opening(row: &[u64; ROW_NUMBERS]) -> bool {
     same_ring(&entries, expected) & after_agrees(opened.after, row, 18)
 }
 
-// The row's call, of four arguments; those that it lacks are 0.
+// The row's call, of four arguments; those that it lacks are 0. No `From`: a call is another crate's type, and a row an array.
 fn call_of(row: &[u64; ROW_NUMBERS]) -> Call {
     let a = nth(row, 2);
     let b = nth(row, 3);

@@ -8,7 +8,7 @@ pub struct Reading {
     pub value: u64,
 }
 
-// The number with one digit more; one past u64, which no row has, becomes 0.
+// The number with one digit more; one past u64, which no row has, becomes 0. A column of the day sheet is unreadable then.
 fn shifted(value: u64, digit: u8) -> u64 {
     value
         .checked_mul(10)

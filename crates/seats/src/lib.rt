@@ -111,7 +111,7 @@ impl Seat {
         })
     }
 
-    // A deposit credits, a withdrawal debits.
+    // A deposit credits, a withdrawal debits: a flag, as the definition `change_of` takes it.
     pub fn change(self, is_deposit: bool, amount: u64) -> Result<Change, Refusal>
         ensures { result ≡ change_of is_deposit amount self }
     {

@@ -18,7 +18,7 @@ use refusal::Refusal;
 use rows::row::Row;
 use words::{POOL_WORDS, RECEIPT_WORDS, share_of};
 
-// The kind of a row that is no call: rates for the next opening.
+// The kind of a row that is no call: rates for the next opening. So it is none of `Kind`, and a row's kind is matched as a number.
 const RATES: u64 = 0;
 
 // The kind of a row that opens.

@@ -9,7 +9,7 @@ use charge::Charged;
 use receipt::{Kind, Receipt, amounts_receipt, refusal_receipt};
 use refusal::{Refusal, refuse_if};
 
-// The status after a change, and the receipt.
+// The status after a change, and the receipt, also of a refused one (document 01; `After` of pool).
 #[derive(Clone, Copy)]
 pub struct StatusAfter {
     pub status: u64,

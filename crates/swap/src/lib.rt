@@ -16,7 +16,8 @@ use rates::{Terms, is_creator_fee_on_input};
 use receipt::{Kind, Paid, Receipt, Trade, refusal_receipt};
 use refusal::Refusal;
 
-// What a swap comes to: books and head after it, its receipt, and what the ring's entries get. A refused swap's books and head are as they were.
+// What a swap comes to: books and head after it, its receipt, and what the ring's entries get. A refused swap's books and head are as they were, and it
+// has a receipt too, as a call gives the pool after it (document 01; `After` of pool).
 #[derive(Clone, Copy)]
 pub struct SwapAfter {
     pub books: Books,
@@ -34,7 +35,7 @@ struct Swap {
     quote: Quote,
 }
 
-// A vault with what is paid in; past u64, 8.
+// A vault with what is paid in; past u64, 8. A counter's sum refuses by another number.
 #[tactic(auto, unfolding(refusal::specs::Tests::outcome))]
 fn pay_in(vault: u64, input: u64) -> Result<u64, Refusal>
     ensures { result ≡ paid_in vault input }

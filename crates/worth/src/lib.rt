@@ -48,7 +48,7 @@ pub fn token_amounts(
     })
 }
 
-// Up for what is paid in, down for what is paid out.
+// Up for what is paid in, down for what is paid out: a flag, as the definition `worth_of` takes it.
 fn rounding(is_deposit: bool) -> RoundDirection
     ensures { result ≡ roundingOf is_deposit }
 {
