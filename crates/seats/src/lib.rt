@@ -10,13 +10,13 @@ ghost use Rattle.seats.specs.Stages.{pair_of, free_pair, seat_in, seat_of, credi
 use refusal::{Refusal, refuse_if};
 use register::{Holder, check_register, entries};
 
-// What a list holds for a holder: his balance, with the place of his entry. Where he has none, the place is that of the first free one; there is
-// none where the list is full.
+// What a list holds for a holder: his balance, with the place of his entry. Where he has none, the place is that of the first free one; in a full
+// list it is the one past the last, as an error.
 #[derive(Clone, Copy)]
 pub struct Seat {
     pub holder: u64,
     pub balance: u64,
-    pub place: Option<usize>,
+    pub place: Result<usize, usize>,
 }
 
 // The one entry that changes: its place, and what then stands there.
@@ -52,13 +52,13 @@ fn seat_in(entries: &[[u64; 2]], holder: u64) -> Seat
             Seat {
                 holder,
                 balance,
-                place: Some(place),
+                place: Ok(place),
             }
         }
         None => Seat {
             holder,
             balance: 0,
-            place: free_place(entries),
+            place: free_place(entries).ok_or(entries.len()),
         },
     }
 }
@@ -82,7 +82,7 @@ impl Seat {
             .balance
             .checked_add(amount)
             .ok_or(Refusal::MATH_OVERFLOW)?;
-        let place = self.place.ok_or(Refusal::REGISTER_FULL)?;
+        let place = self.place.or(Err(Refusal::REGISTER_FULL))?;
         Ok(Change {
             place,
             entry: Holder {
@@ -92,7 +92,7 @@ impl Seat {
         })
     }
 
-    // An amount of 0, or more than the balance, 10; or the entry that changes. Who has no entry has no balance.
+    // An amount of 0, or more than the balance, 10; or the entry that changes, in a full list too.
     #[tactic(auto, unfolding(crate::specs::Stages::debit_of, refusal::specs::Tests::outcome))]
     pub fn debit(self, amount: u64) -> Result<Change, Refusal>
         ensures { result ≡ debit_of amount self }
@@ -101,7 +101,7 @@ impl Seat {
             (amount == 0, Refusal::REQUIRE_VIOLATED),
             (amount > self.balance, Refusal::REQUIRE_VIOLATED),
         ])?;
-        let place = self.place.ok_or(Refusal::REQUIRE_VIOLATED)?;
+        let (Ok(place) | Err(place)) = self.place;
         Ok(Change {
             place,
             entry: Holder {

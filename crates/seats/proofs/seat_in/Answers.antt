@@ -6,4 +6,4 @@ pub returns-in-Some : goal.returns-in-Some
 returns-in-Some c = own_seat c.args.holder c.args.entries.now c.in-Some.place c.in-Some.ensures
 
 pub returns-in-None : goal.returns-in-None
-returns-in-None c = new_seat c.args.holder c.args.entries.now _ c.in-None.ensures c.free_place.ensures
+returns-in-None c = new_seat c.args.holder c.args.entries.now _ c.in-None.ensures (rw c.free_place.ensures at c.ok_or.ensures.value)
