@@ -62,6 +62,12 @@ arrays_even m h = chunked (length m / 2) m (omega (arith, h)) ∙ sym (even_pair
 pub holders_length : (ps : List (List ℕ)) → length (holders_of ps) ≡ length ps
 holders_length ps = length-map ps holder_of
 
+pub pairs_counted : (ps : List (List ℕ)) (m : List ℕ) → holders_of ps ≡ entries_of m → length ps ≡ length (entries_of m)
+pairs_counted ps m e = sym (holders_length ps) ∙ ap length e
+
+pub pairs_within : (ps : List (List ℕ)) (m : List ℕ) → holders_of ps ≡ entries_of m → length ps + length ps ≤ length m
+pairs_within ps m e = omega (arith, pairs_counted ps m e, both_in m)
+
 pub holder_at : (ps : List (List ℕ)) (i : ℕ) → i < length ps → holder_of (get_or ps i []) ≡ get_or (holders_of ps) i zero_holder
 holder_at ps i h = sym (get_or-map holder_of ps i [] zero_holder h)
 

@@ -4,8 +4,9 @@
 
 mod marks;
 
-ghost use Rattle.std.specs.Prelude.{◌≡◌};
+ghost use Rattle.std.specs.Prelude.{◌≡◌, ◌+◌, ◌≤◌, length, slice_index_or};
 ghost use Rattle.refusal.specs.Tests.{tested};
+ghost use Rattle.register.specs.Holders.{zero_holder};
 ghost use Rattle.register.specs.Changes.{register_tests};
 ghost use Rattle.register.specs.Numbers.{entries_of, holders_of};
 
@@ -29,6 +30,27 @@ pub fn entries(numbers: &[u64]) -> &[[u64; 2]]
 {
     let (entries, odd) = numbers.as_chunks();
     if odd.is_empty() { entries } else { &[] }
+}
+
+// How many entries the numbers are.
+#[tactic(auto, using(crate::proofs::Pairs::pairs_counted, crate::proofs::Pairs::pairs_within))]
+pub fn count_of(numbers: &[u64]) -> usize
+    ensures { (result ≡ length (entries_of numbers.now)) × (result + result ≤ length numbers.now) }
+{
+    entries(numbers).len()
+}
+
+// The entry of a place; zeros where the list has none.
+pub fn entry_at(numbers: &[u64], at: usize) -> Holder
+    ensures { result ≡ slice_index_or (entries_of numbers.now) at zero_holder }
+{
+    match entries(numbers).get(at) {
+        Some(&[number, balance]) => Holder { number, balance },
+        None => Holder {
+            number: 0,
+            balance: 0,
+        },
+    }
 }
 
 // No or over 256 entries, a number 0 or twice among those with a balance, a holder 0: 3.
