@@ -1,6 +1,6 @@
 -- From the last entry back: the entries behind a place are numbered, and linked by their marks.
 -- Assumes nothing.
-use Rattle.std.proofs.Common.{◌≡◌, ℕ, ◌+◌, ◌-◌, ◌<◌, ◌≤◌, Bool, true, false, eqb, List, length, get_or, drop, set, replicate, sym, refl, ap, ◌∙◌, subst, arith, length-set, drop_of_length-le, get_or-set_other, get_or-set_same, eqb-true}
+use Rattle.std.proofs.Common.{◌≡◌, ℕ, ◌+◌, ◌-◌, ◌<◌, ◌≤◌, Bool, true, false, not, eqb, List, length, get_or, drop, set, replicate, sym, refl, ap, ◌∙◌, subst, arith, length-set, drop_of_length-le, get_or-set_other, get_or-set_same, eqb-true}
 use lib.ListN.{length-replicate, get_or-replicate}
 use borrow.Author.Tests.{eqb-false}
 use Rattle.register.specs.declared.Holder.{Holder}
@@ -33,6 +33,13 @@ end_behind salt es i few e =
       marks = length-replicate 1024 i;
       places = length-replicate 256 i;
     }
+
+-- an entry with a balance and the number 0, before numbered ones: the list is not numbered
+pub zero_here :
+    (es : List Holder) (i : ℕ) → 0 < i → i ≤ length es → ((get_or es (i - 1) zero_holder).balance ≡ 0 → ⊥)
+    → (get_or es (i - 1) zero_holder).number ≡ 0 → numbered (drop i es) ≡ true → numbered (drop i es) ≡ not (numbered es)
+zero_here es i above inside f z n =
+    n ∙ ap not (sym (not_behind es (i - 1) (zero_stops es (i - 1) (omega (arith, inside, above)) f z)))
 
 module _ (salt : ℕ) (es : List Holder) (nearest links : List ℕ) (i : ℕ) (h : Behind salt es nearest links i) where
   module _ (above : 0 < i) (e : Holder) (at : e ≡ get_or es (i - 1) zero_holder) where

@@ -29,6 +29,9 @@ even_pairs : (m : List ℕ) → length m % 2 ≡ 0 → entries_of m ≡ pairs_of
 unfolding entries_of
 even_pairs m h = rw (eq-eqb (length m % 2) 0 h)
 
+pub half : (m : List ℕ) → length m % 2 ≡ 0 → length m / 2 ≡ length (entries_of m)
+half m h = rw (even_pairs m h) (omega (arith, low m, high m))
+
 -- what holds of the entries of an even count of numbers, and of none, holds of those of any
 by_count : (P : List Holder → Type 0) (m : List ℕ) → (length m % 2 ≡ 0 → P (pairs_of m)) → P [] → P (entries_of m)
 unfolding entries_of

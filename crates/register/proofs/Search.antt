@@ -1,6 +1,6 @@
 -- The first entry that passes: what is known of it, a search entry by entry, and a holder's balance at the place of his entry.
 -- Assumes nothing.
-use Rattle.std.proofs.Common.{◌≡◌, ℕ, zero, suc, ◌+◌, ◌<◌, ◌≤◌, Bool, true, false, cond, not, ◌&&◌, ◌||◌, eqb, ltb, List, [], ◌∷◌, length, get_or, drop, sym, refl, ap, ◌∙◌, add-one, arith, length-drop, drop_of_length-le, get_or-drop, drop-cons, drop-drop, ltb-false, ltb-true, lt-ltb, eq-eqb, ne_eqb, eqb-true}
+use Rattle.std.proofs.Common.{◌≡◌, ℕ, zero, suc, ◌+◌, ◌<◌, ◌≤◌, Bool, true, false, cond, not, ◌&&◌, ◌||◌, eqb, ltb, List, [], ◌∷◌, length, get_or, drop, sym, refl, ap, ◌∙◌, add-one, arith, length-drop, drop_of_length-le, get_or-drop, drop-cons, drop-drop, ltb-false, ltb-true, le-ltb, lt-ltb, eq-eqb, ne_eqb, eqb-true}
 use mathlib.Core.Bool.{false≢true}
 use lib.Dec.{leb-suc-suc}
 use borrow.Author.Tests.{eqb-false}
@@ -44,6 +44,9 @@ some_is p (e ∷ es) = go (p e) (some_is p es)
 
 pub some_in : (p : Holder → Bool) (es : List Holder) → first_of p es < length es → some p es ≡ true
 some_in p es h = some_is p es ∙ lt-ltb (first_of p es) (length es) h
+
+pub some_out : (p : Holder → Bool) (es : List Holder) → length es ≤ first_of p es → some p es ≡ false
+some_out p es h = some_is p es ∙ le-ltb (first_of p es) (length es) h
 
 pub in_some : (p : Holder → Bool) (es : List Holder) → some p es ≡ true → first_of p es < length es
 in_some p es h = ltb-true _ _ (sym (some_is p es) ∙ h)
