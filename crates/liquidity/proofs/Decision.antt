@@ -28,17 +28,17 @@ abbrev paid1 : Worth → ℕ
 paid1 w = min w.net1.0 w.amount1.0
 
 -- the last stage, and what is booked past it, on a worth
-abbrev last_tests : Bool → Worth → Charges → Books → ℕ → ℕ → ℕ → Tests
+abbrev pub last_tests : Bool → Worth → Charges → Books → ℕ → ℕ → ℕ → Tests
 last_tests true w c b lp limit0 limit1 =
     deposit_last w.amount0.0 w.amount1.0 (least_sent c.token0 w.amount0.0) (least_sent c.token1 w.amount1.0) b lp limit0 limit1
 last_tests false w c b lp limit0 limit1 = withdraw_last (rest_of c.token0 (paid0 w)) (rest_of c.token1 (paid1 w)) b lp limit0 limit1
 
-abbrev booking : Bool → Worth → Charges → Books → ℕ → BooksAfter
+abbrev pub booking : Bool → Worth → Charges → Books → ℕ → BooksAfter
 booking true w c b lp =
     deposited w.amount0.0 w.amount1.0 (charged_on c (least_sent c.token0 w.amount0.0) (least_sent c.token1 w.amount1.0)) b lp
 booking false w c b lp = withdrawn (paid0 w) (paid1 w) (charged_on c (paid0 w) (paid1 w)) b lp
 
-abbrev last_stage : Bool → Worth → Charges → Books → ℕ → ℕ → ℕ → Result BooksAfter ℕ
+abbrev pub last_stage : Bool → Worth → Charges → Books → ℕ → ℕ → ℕ → Result BooksAfter ℕ
 last_stage isDeposit w c b lp limit0 limit1 = outcome (last_tests isDeposit w c b lp limit0 limit1) (λ n. Err n) (Ok (booking isDeposit w c b lp))
 
 -- the stages one after another are the call's list

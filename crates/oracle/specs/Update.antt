@@ -11,11 +11,16 @@ use Rattle.oracle.specs.Ring.{Entries, Entry, outside, seen, with_entry, observe
 abbrev pub entry_of : Observation → Entry
 entry_of o = record { clock = o.clock; sum0 = value o.sum0; sum1 = value o.sum1 }
 
--- the entries that an update leaves: only `Stored` writes, at the index of the head that it gives; outside the ring nothing is written
+-- the entries that an update leaves, whatever its refusal is told by: only `Stored` writes, at the index of the head that it gives; outside the ring
+-- nothing is written
+abbrev pub stored_by : {E : Type 0} → Entries → Result Update E → Entries
+stored_by entries (Err e) = entries
+stored_by entries (Ok (Kept ring)) = entries
+stored_by entries (Ok (Stored ring o)) = cond (outside ring) entries (with_entry entries ring.index (entry_of o))
+
+-- where it is told by its number
 abbrev pub stored_in : Entries → Result Update ℕ → Entries
-stored_in entries (Err n) = entries
-stored_in entries (Ok (Kept ring)) = entries
-stored_in entries (Ok (Stored ring o)) = cond (outside ring) entries (with_entry entries ring.index (entry_of o))
+stored_in entries update = stored_by entries update
 
 -- the head that an accepted update leaves
 abbrev pub after_of : Update → Ring

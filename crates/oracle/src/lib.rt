@@ -5,7 +5,7 @@
 ghost use Rattle.std.specs.Prelude.{◌≡◌, cond, ◌<◌, eqb, length};
 ghost use Rattle.wide.specs.Value.{value};
 ghost use Rattle.oracle.specs.Ring.{observation_num, ring_words, price, entry_at, outside, seen as seenOf, with_entry, next_index, head, observed};
-ghost use Rattle.oracle.specs.Update.{answered, update as updateOf, stored_in, entry_of, after_of};
+ghost use Rattle.oracle.specs.Update.{answered, update as updateOf, stored_by, entry_of, after_of};
 ghost use Rattle.oracle.specs.Stages.{sum_after, moved_entry};
 
 use divide::price_x32;
@@ -137,9 +137,9 @@ impl Update {
     }
 }
 
-// What an update has decided is written: only `Stored` writes. A head outside the ring, which no update gives, writes nothing.
-pub fn store(entries: &mut [u64; RING_WORDS], update: Result<Update, Refusal>)
-    ensures { entries.new ≡ stored_in entries.old update }
+// What an update has decided is written, whatever a refused one is told by: only `Stored` writes. A head outside the ring, which no update gives, writes nothing.
+pub fn store<E: Drop>(entries: &mut [u64; RING_WORDS], update: Result<Update, E>)
+    ensures { entries.new ≡ stored_by entries.old update }
 {
     if let Ok(Update::Stored(ring, entry)) = update {
         if !ring.is_outside() {

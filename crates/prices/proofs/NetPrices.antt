@@ -10,11 +10,11 @@ use Rattle.pool.specs.declared.state.Pool.{Pool}
 use Rattle.pool.specs.State.{net0, net1}
 use Rattle.prices.specs.Prices.{prices_of, prices_answer}
 
-abbrev then_prices : Result Nets ℕ → Result Prices ℕ
+abbrev pub then_prices : Result Nets ℕ → Result Prices ℕ
 then_prices (Err n) = Err n
 then_prices (Ok nets) = prices_of nets.net0 nets.net1
 
-nets_then_prices : (p : Pool) → then_prices (nets_answer p.books) ≡ prices_answer p
+pub nets_then_prices : (p : Pool) → then_prices (nets_answer p.books) ≡ prices_answer p
 unfolding nets_answer prices_of prices_answer
 nets_then_prices p =
     outcome_map then_prices (counter_tests p.books) Err (Ok (record { net0 = net0 p; net1 = net1 p })) ∙ outcome_then _ _ _ _

@@ -1,26 +1,30 @@
 -- The two transfers of a swap, as the code picks them by their tokens: the caller's amount, and what the swap finds.
 -- Assumes nothing.
-use mathlib.Core.Path.{◌≡◌, refl, ap}
+use mathlib.Core.Path.{◌≡◌, refl, sym, ap}
 use mathlib.Core.Bool.{Bool, true, false, cond, not}
 use mathlib.Core.List.{[], ◌∷◌}
 use native.Mathlib.Omega.{arith}
 use Prim.Native.Nat.{ℕ}
 use lib.Dec.{ltb, eqb}
 use borrow.Author.Tests.{eqb-true, eqb-false, eq-eqb, ne_eqb}
+use Rattle.std.specs.Prelude.{Ok}
 use Rattle.refusal.specs.Refusal.{not_approved, invalid_vault, require_violated}
-use Rattle.refusal.specs.Tests.{◌then◌, past, outcome}
+use Rattle.refusal.specs.Tests.{◌then◌, past, outcome, tested}
+use Rattle.refusal.proofs.Stages.{stage_value}
 use Rattle.rates.specs.declared.Terms.{Terms}
 use Rattle.rates.specs.Rates.{rate_limits, limit_tests as feeLimits, creator_rate, on_input}
 use Rattle.calculator.specs.declared.SwapResult.{SwapResult}
 use Rattle.calculator.specs.Calculator.{charged, swap_base_output, with_fees}
 use Rattle.accounting.specs.declared.Books.{Books}
 use Rattle.accounting.specs.Counters.{of_token}
-use Rattle.charge.specs.Charge.{charge_on, rest_of, least_sent}
-use Rattle.charge.specs.Transfers.{sent_of}
+use Rattle.charge.specs.declared.End.{End}
+use Rattle.charge.specs.Charge.{charge_on, rest_of, least_sent, sent_tests}
+use Rattle.charge.specs.Transfers.{sent_of, transferred}
 use Rattle.charge.proofs.Rest.{rest_le, sent_ge}
 use Rattle.status.specs.Status.{bit}
-use Rattle.quotes.specs.Quotes.{net_in, net_out, charge_in, charge_out, vault_amount, charged_of, result_of, looked, front_tests, wanted_tests}
-use Rattle.quotes.specs.Stages.{near_token, near_charge, far_charge}
+use Rattle.quotes.specs.Quotes.{net_in, net_out, charge_in, charge_out, vault_amount, charged_of, result_of, looked, front_tests, wanted_tests, solver_amount, slippage_tests}
+use Rattle.quotes.specs.Stages.{near_token, near_charge, far_charge, limit_tests}
+use Rattle.quotes.proofs.Chain.{next, staged}
 
 module _ (t : Terms) where
   -- a token's charge by its side
@@ -102,6 +106,24 @@ module _ (t : Terms) where
             ≡ front (ltb 1 direction) (looked i direction amount (vault_amount i t zero amount)) (wanted i rest)
         later true = by_input_later (ltb 1 direction)
         later false = by_output_later (ltb 1 direction)
+
+  -- ---- what the swap finds
+  module _ (zeroIn : Bool) (s : SwapResult) (limit : ℕ) where
+    -- what can't be sent, and then the limit, refuse as the definition's tests do
+    held_number :
+        (byInput : Bool)
+        → next (transferred byInput (far_charge byInput t zeroIn) (of_token byInput s.output s.input)) (λ end. tested (limit_tests byInput end.amount limit))
+        ≡ tested (slippage_tests byInput (solver_amount byInput t zeroIn s) limit)
+    unfolding outcome tested transferred
+    held_number true = refl
+    held_number false = staged (sent_tests (charge_in zeroIn t) s.input) _ _
+
+    -- by output the charge is on the least that is sent
+    far_charged_by_output :
+        {end : End} → transferred false (far_charge false t zeroIn) s.input ≡ Ok end
+        → end.charge ≡ charge_on (charge_in zeroIn t) (least_sent (charge_in zeroIn t) s.input)
+    unfolding transferred
+    far_charged_by_output e = sym (ap (λ (end : End). end.charge) (stage_value _ (sent_tests (charge_in zeroIn t) s.input) e))
 
   -- by output the calculator leaves the amount that it is given
   output_is : (b : Books) (zeroIn : Bool) (moved : ℕ) → (result_of false t b zeroIn moved).output ≡ moved

@@ -21,10 +21,10 @@ use Rattle.curve.proofs.LpTokens.{divided_is, undivided_is, amount_zero, amount_
 use Rattle.worth.specs.Worth.{amount_tests, token_amounts}
 
 -- a test of two high halves
-some_high : (h0 h1 : ℕ) → not (eqb h0 0) || not (eqb h1 0) ≡ true → h0 ≡ 0 → h1 ≡ 0 → ⊥
+pub some_high : (h0 h1 : ℕ) → not (eqb h0 0) || not (eqb h1 0) ≡ true → h0 ≡ 0 → h1 ≡ 0 → ⊥
 some_high h0 h1 t z0 z1 = eqb-false 0 0 (sym (rw (eq-eqb h0 0 z0, eq-eqb h1 0 z1) at t)) refl
 
-no_high : (h0 h1 : ℕ) → not (eqb h0 0) || not (eqb h1 0) ≡ false → (h0 ≡ 0) × (h1 ≡ 0)
+pub no_high : (h0 h1 : ℕ) → not (eqb h0 0) || not (eqb h1 0) ≡ false → (h0 ≡ 0) × (h1 ≡ 0)
 no_high h0 h1 t =
     let n = neither (not (eqb h0 0)) (not (eqb h1 0)) t in
     (eqb-true h0 0 (not-false (eqb h0 0) n.0), eqb-true h1 0 (not-false (eqb h1 0) n.1))
