@@ -1,16 +1,25 @@
 -- A row that is begun, in the bytes that hold it.
-use Prim.Native.Nat.{ℕ, ◌+◌, ◌-◌, ◌≤◌, min}
+use Prim.Native.Nat.{ℕ, ◌+◌, ◌-◌, ◌≤◌, ◌<◌, min}
 use mathlib.Core.Path.{◌≡◌, sym, ap, ◌∙◌}
-use mathlib.Core.List.{List, ◌++◌, append-nil}
+use mathlib.Core.List.{List, ◌++◌, append_assoc, append-nil}
+use native.Mathlib.Nat.{add-zero, add-suc}
+use native.Mathlib.Numerals.{add-one}
 use native.Mathlib.Decide.{dec_le}
 use native.Mathlib.Omega.{arith}
-use lib.ListN.{length, take, drop, replicate, length-append, length-take, length-drop, drop_of_length-le}
-use Rattle.std.proofs.lemmas.Slice.{take-put_mid}
-use borrow.Rule.Slice.PartMut.{put_mid}
-use lib.Seq.{take_all, take-append-add, take-append_seam, length-take-le}
+use lib.ListN.{length, get_or, set, take, drop, replicate, length-append, length-take, length-drop, drop_of_length-le}
+use lib.Seq.{take-suc, take-suc-set, take_all, take-append-add, take-append_seam, length-take-le}
 use Rattle.stream.specs.Pieces.{kept, holding}
 
--- ---- bytes after those that are begun
+-- ---- bytes after those that are begun, one by one
+pub none_appended : (begun : ℕ) (held part : List ℕ) → take (begun + 0) held ≡ take begun held ++ take 0 part
+none_appended begun held part = rw (add-zero begun, append-nil)
+
+pub one_appended :
+    (held₀ held part : List ℕ) (begun i : ℕ) → begun + i < length held → i < length part → take (begun + i) held ≡ take begun held₀ ++ take i part
+    → take (begun + (i + 1)) (set held (begun + i) (get_or part i 0)) ≡ take begun held₀ ++ take (i + 1) part
+one_appended held₀ held part begun i h k e =
+    rw (add-one i, add-suc begun i, take-suc-set held (begun + i) (get_or part i 0) h, e, take-suc part i 0 k, append_assoc)
+
 -- no more than 103 are kept
 kept_part : (held part : List ℕ) (begun : ℕ) → length held ≡ 103 → begun ≤ 103 → kept (take begun held ++ part) ≡ take begun held ++ take (103 - begun) part
 kept_part held part begun h k =
@@ -24,6 +33,16 @@ take_least a l = go (dec_le (length l) a)
     go : Dec (length l ≤ a) → take (min (length l) a) l ≡ take a l
     go (yes h) = let e : min (length l) a ≡ length l = omega arith in rw e (take_all (length l) l (omega arith) ∙ sym (take_all a l h))
     go (no h) = let e : min (length l) a ≡ a = omega arith in rw e
+
+pub all_appended :
+    (held₀ held part : List ℕ) (begun n i : ℕ) → length held₀ ≡ 103 → begun ≤ 103 → n ≡ min (length part) (103 - begun) → i ≡ n
+    → take (begun + i) held ≡ take begun held₀ ++ take i part
+    → (begun + n ≡ length (kept (take begun held₀ ++ part))) × (take (begun + n) held ≡ kept (take begun held₀ ++ part))
+all_appended held₀ held part begun n i h k e f g =
+    let same : kept (take begun held₀ ++ part) ≡ take begun held₀ ++ take n part =
+    rw (e, take_least (103 - begun) part) (kept_part held₀ part begun h k) in
+    let long : length (take begun held₀ ++ take n part) ≡ begun + n = simp (length-append, length-take) (omega arith) in
+    (sym (ap length same ∙ long), (rw f at g) ∙ sym same)
 
 -- ---- all 103 bytes
 pub least_begun : (begun : ℕ) (held : List ℕ) → length held ≡ 103 → take (min begun 103) held ≡ take begun held
@@ -44,24 +63,6 @@ unfolding holding
 then_zeros held row zeros n h k e f g =
     let long = length-drop n held in
     rw (g, take_all (length held - n) (drop n held) (omega arith), drop_of_length-le (drop n held) {i = length held - n} (omega arith), append-nil, long, h, f, e)
-
--- bytes put after those that are begun, as far as they go, and zeros after them
-pub carried :
-    (held part wrote zeros : List ℕ) (begun from n : ℕ) → length held ≡ 103 → from ≡ min begun 103 → n ≡ min (length part) (103 - from) → wrote ≡ take n part
-    → let put = put_mid from (from + n - from) held wrote in let row = kept (take begun held ++ part) in
-    zeros ≡ replicate (length (take (length put - (from + n)) (drop (from + n) put))) 0
-    → (from + n ≡ length row) × (put_mid (from + n) (length put - (from + n)) put zeros ≡ holding row)
-carried held part wrote zeros begun from n h e f g z =
-    let put = put_mid from (from + n - from) held wrote in
-    let row = kept (take begun held ++ part) in
-    let fits : from ≤ 103 = omega arith in
-    let wide : length wrote ≡ n = rw g (length-take-le n part (omega arith)) in
-    let long : length put ≡ 103 = simp (length-append, length-take, length-drop) (omega arith) in
-    let begins : take from held ≡ take begun held = rw e (least_begun begun held h) in
-    let same : take from held ++ take n part ≡ row = rw (f, take_least (103 - from) part) (sym (kept_part held part from h fits)) ∙ ap (λ (l : List ℕ). kept (l ++ part)) begins in
-    let front : take (from + n) put ≡ row = take-put_mid from (from + n - from) held wrote (from + n) (omega arith) (omega arith) ∙ rw g same in
-    let exact : from + n ≡ length row = sym (length-take-le (from + n) put (omega arith)) ∙ ap length front in
-    (exact, then_zeros put row zeros (from + n) long (omega arith) exact front z)
 
 -- the row is in front
 pub row_held : (row : List ℕ) (n : ℕ) → n ≡ length row → take n (holding row) ≡ row

@@ -86,6 +86,18 @@ fn line_length(bytes: &[u8]) -> usize
     passed + first_newline(rest).unwrap_or(rest.len())
 }
 
+// Puts bytes behind those that are begun, as far as they go. One by one: a copy of slices would ask whoever links the library for `memmove`.
+fn append(held: &mut [u8], begun: usize, part: &[u8]) -> usize
+    requires { (length held.old ≡ row_bytes) × (begun ≤ row_bytes) }
+    ensures { (result ≡ length (kept (take begun held.old ++ part.now))) × (take result held.new ≡ kept (take begun held.old ++ part.now)) × (length held.new ≡ row_bytes) }
+{
+    let n = part.len().min(ROW_BYTES - begun);
+    for i in 0..n {
+        held[begun + i] = part[i];
+    }
+    begun + n
+}
+
 // A row that is begun, with more of its bytes: no more than a row's are kept.
 fn carry(held: &mut [u8], begun: usize, part: &[u8]) -> usize
     requires { length held.old ≡ row_bytes }
@@ -93,11 +105,9 @@ fn carry(held: &mut [u8], begun: usize, part: &[u8]) -> usize
     ensures all { held.new ≡ holding (kept (take begun held.old ++ part.now)) }
     ensures within { result ≤ row_bytes }
 {
-    let from = begun.min(ROW_BYTES);
-    let n = part.len().min(ROW_BYTES - from);
-    held[from..from + n].copy_from_slice(&part[..n]);
-    held[from + n..].fill(0);
-    from + n
+    let n = append(held, begun.min(ROW_BYTES), part);
+    held[n..].fill(0);
+    n
 }
 
 // Does what a row says, and writes its answer at a place of the output.
