@@ -7,8 +7,8 @@ use Rattle.math.specs.Ratio.{Quotient}
 abbrev pub Answer : Type 0
 Answer = Result ℕ ℕ
 
--- a quotient: `none` is the number where there is no divisor, `over` where the result is past u64
-abbrev pub answer_of : ℕ → ℕ → Quotient → Answer
+-- a quotient: `none` refuses where there is no divisor, `over` where the result is past u64
+abbrev pub answer_of : {E : Type 0} → E → E → Quotient → Result ℕ E
 answer_of none over (Ok q) = Ok q
 answer_of none over (Err Past) = Err over
 answer_of none over (Err NoDivisor) = Err none

@@ -2,13 +2,16 @@
 -- Assumes nothing.
 use mathlib.Core.Path.{◌≡◌, ◌∙◌}
 use mathlib.Core.Bool.{Bool, true, false, cond}
-use Prim.Native.Nat.{ℕ, ◌-◌, ◌*◌, ◌<◌, ◌≤◌}
+use mathlib.Core.Logic.{⊎_elim}
+use Prim.Native.Nat.{ℕ, ◌-◌, ◌*◌, ◌^◌, ◌<◌, ◌≤◌}
 use native.Mathlib.Nat.{le_trans, le-div_iff_mul-le, mul-le-mul_left}
 use native.Mathlib.Omega.{arith}
 use lib.Dec.{eqb}
+use Rattle.std.specs.Prelude.{Ok}
 use Rattle.divide.specs.Division.{ceil_div}
-use Rattle.math.proofs.Rounding.{floor_le_ceil}
-use Rattle.refusal.specs.Tests.{Tests, ◌then◌, outcome}
+use Rattle.math.specs.Ratio.{Quotient, fit}
+use Rattle.math.proofs.Rounding.{lt_or_le, floor_le_ceil, fit_fits}
+use Rattle.refusal.specs.Tests.{Tests, ◌then◌, outcome, u64_max}
 use Rattle.refusal.proofs.Stops.{turns, outcome_past}
 use Rattle.rates.specs.declared.Rates.{Rates}
 use Rattle.fees.specs.Fees.{million, pre_fee}
@@ -36,3 +39,12 @@ pre_fee_ge amount rate h = go (eqb rate 0)
         le_trans
         ((le-div_iff_mul-le {k = million - rate} {x = amount} {y = amount * million} (omega arith)).1 (mul-le-mul_left amount (omega arith)))
         (floor_le_ceil (amount * million) (million - rate))
+
+-- ---- a quotient told by its case
+-- a number whose quotient is none is past u64
+pub told_past : (q : Quotient) (n : ℕ) → q ≡ fit n → ((m : ℕ) → q ≡ Ok m → ⊥) → u64_max < n
+told_past q n e t =
+    ⊎_elim
+    (λ (l : n < 2 ^ 64). absurd (t n (e ∙ fit_fits n l)))
+    (λ (l : 2 ^ 64 ≤ n). omega arith)
+    (lt_or_le n (2 ^ 64))

@@ -3,19 +3,21 @@
 use mathlib.Core.Path.{◌≡◌, refl, sym, ap, ◌∙◌}
 use mathlib.Core.Bool.{Bool, true, false, cond}
 use mathlib.Core.Logic.{inl, inr, ⊎_elim}
-use Prim.Native.Nat.{ℕ, zero, suc, ◌+◌, ◌-◌, ◌*◌, ◌/◌, ◌<◌, ◌≤◌, min}
+use Prim.Native.Nat.{ℕ, zero, suc, ◌+◌, ◌-◌, ◌*◌, ◌/◌, ◌^◌, ◌<◌, ◌≤◌, min}
 use native.Mathlib.Nat.{add_comm, add-mul-div_right, mul-le-mul_right, mul-zero}
 use native.Mathlib.Numerals.{add-one}
 use native.Mathlib.Omega.{arith}
 use lib.Dec.{ltb, eqb}
 use borrow.Author.Tests.{eqb-true, eqb-false, lt-ltb, le-ltb}
+use Rattle.std.specs.Prelude.{Ok}
 use Rattle.divide.specs.Division.{ceil_div}
-use Rattle.math.proofs.Rounding.{lt_or_le, ceil_ge, ceil_least, ceil_mono, share_ceil_le, share_ceil_ge}
+use Rattle.math.specs.Ratio.{Quotient, fit}
+use Rattle.math.proofs.Rounding.{lt_or_le, ceil_ge, ceil_least, ceil_mono, share_ceil_le, share_ceil_ge, fit_fits, ceil_is}
 use Rattle.refusal.specs.Tests.{u64_max, past}
 use Rattle.charge.specs.declared.Charge.{Charge}
 use Rattle.charge.specs.Charge.{ten_thousand, charge_on, rest_of, charge_for, least_sent}
 use Rattle.charge.specs.Least.{LeastSent}
-use Rattle.charge.specs.Stages.{ChargedByPoints}
+use Rattle.charge.specs.Stages.{ChargedByPoints, sent_by_points}
 
 -- ---- rounding up: p of each p + q of what is sent, and p for each q of what arrives, are within the same bounds
 module _ (p q w k : ℕ) where
@@ -132,6 +134,26 @@ pub scaled : (points w : ℕ) → points < ten_thousand → ceil_div (w * ten_th
 scaled points w low =
     let whole : points + (ten_thousand - points) ≡ ten_thousand = omega arith in
     rw whole at (scaled_by points (ten_thousand - points) w (omega arith))
+
+low_fit : (points w : ℕ) → points < ten_thousand → sent_by_points points w ≡ fit (w + ceil_div (w * points) (ten_thousand - points))
+unfolding sent_by_points
+low_fit points w low = rw (lt-ltb points ten_thousand low) (ceil_is (w * ten_thousand) (ten_thousand - points) (omega arith) ∙ ap fit (scaled points w low))
+
+-- a quotient of no number
+abbrev pub Other : Quotient → Type 0
+Other q = (m : ℕ) → q ≡ Ok m → ⊥
+
+told_past : (q : Quotient) (n : ℕ) → q ≡ fit n → Other q → u64_max < n
+told_past q n e t =
+    ⊎_elim
+    (λ (l : n < 2 ^ 64). absurd (t n (e ∙ fit_fits n l)))
+    (λ (l : 2 ^ 64 ≤ n). omega arith)
+    (lt_or_le n (2 ^ 64))
+
+-- where the points alone give none, what they ask is past u64
+pub past_by_points :
+    (points w : ℕ) → points < ten_thousand → Other (sent_by_points points w) → u64_max < w + ceil_div (w * points) (ten_thousand - points)
+past_by_points points w low t = told_past _ _ (low_fit points w low) t
 
 -- ---- w arrives of n exactly where the least sent for w is at most n
 module _ (c : Charge) where

@@ -111,6 +111,10 @@ zero_at bytes at h z =
     let k : 0 < length (drop (suc at) bytes) = simp length-drop (omega arith) in
     ap read_column (drop-cons bytes at 0 (omega arith)) ∙ (ap (λ (b : ℕ). read_column (b ∷ drop (suc at) bytes)) z ∙ zero_first (drop (suc at) bytes) k)
 
+pub none_left : (bytes : List ℕ) (at : ℕ) → length bytes ≤ at → read_column (drop at bytes) ≡ None
+unfolding read_column
+none_left bytes at h = rw (drop_of_length-le bytes h)
+
 -- ---- the blanks before it
 abbrev begins : ℕ → Bool
 begins byte = not (byte == blank)

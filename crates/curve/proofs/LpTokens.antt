@@ -2,12 +2,13 @@
 -- Assumes nothing.
 use mathlib.Core.Path.{◌≡◌, refl, sym, ap, subst, ◌∙◌}
 use mathlib.Core.Bool.{Bool, true, false, not, cond, ◌||◌}
+use mathlib.Core.Logic.{⊎_elim, ◌⊎◌}
 use Prim.Native.Nat.{ℕ, ◌+◌, ◌*◌, ◌/◌, ◌%◌, ◌^◌, ◌<◌, ◌≤◌}
 use native.Mathlib.Nat.{div-le_self, div-add-mod', mod-lt, mod-eq_of_lt, lt_of_le_of_lt, lt_of_lt_of_le, pos_of_ne-zero, mul-le-mul_right, suc-mul, mul_comm}
 use native.Mathlib.Omega.{arith}
 use lib.Dec.{eqb}
 use mir.Val.{bool_byte}
-use borrow.Author.Tests.{eqb-true, eqb-false}
+use borrow.Author.Tests.{eqb-true, eqb-false, eq-eqb, ne_eqb}
 use Rattle.std.specs.Prelude.{Result, Ok, Err, IsOkAnd}
 use Rattle.wide.specs.declared.U128.{U128}
 use Rattle.wide.specs.Value.{value, u128_of}
@@ -54,8 +55,13 @@ le_rounded Ceiling quotient remainder = go (eqb remainder 0 || eqb quotient 0)
     go true = omega arith
     go false = omega arith
 
+-- ---- a quotient rounded, case by case
+pub rounded_down : (quotient remainder : ℕ) → quotient ≡ rounded Floor quotient remainder
+unfolding rounded
+rounded_down quotient remainder = refl
+
 -- a quotient of 0 stays 0
-rounded_zero : (quotient remainder : ℕ) → eqb quotient 0 ≡ true → quotient ≡ rounded Ceiling quotient remainder
+pub rounded_zero : (quotient remainder : ℕ) → eqb quotient 0 ≡ true → quotient ≡ rounded Ceiling quotient remainder
 unfolding rounded
 rounded_zero quotient remainder e = rw e (go (eqb remainder 0))
   where
@@ -67,6 +73,16 @@ nothing : (direction : RoundDirection) (remainder : ℕ) → rounded direction 0
 unfolding rounded
 nothing Floor remainder = refl
 nothing Ceiling remainder = sym (rounded_zero 0 remainder refl)
+
+pub rounded_some :
+    (quotient remainder more : ℕ) → eqb quotient 0 ≡ false → ((remainder ≡ 0) × (more ≡ 0)) ⊎ ((remainder ≡ 0 → ⊥) × (more ≡ 1))
+    → quotient + more ≡ rounded Ceiling quotient remainder
+unfolding rounded
+rounded_some quotient remainder more e w =
+    ⊎_elim
+    (λ x. rw (e, eq-eqb remainder 0 x.0) (omega (arith, x.1)))
+    (λ x. rw (e, ne_eqb remainder 0 x.0) (ap (λ (k : ℕ). quotient + k) x.1))
+    w
 
 -- ---- a quotient of two halves rounded, step by step
 module _ (q : U128) (remainder : ℕ) where

@@ -130,7 +130,7 @@ pub fn lp_tokens_to_one_token(
     Ok(amount.low)
 }
 
-// Both tokens' parts.
+// Both tokens' parts. Each is divided before either is tested: the two divisions don't wait for each other.
 #[tactic(auto, unfolding(crate::specs::ConstantProduct::lp_tokens_to_trading_tokens, crate::specs::ConstantProduct::lp_part, refusal::specs::Tests::outcome))]
 pub fn lp_tokens_to_trading_tokens(
     lp: LpTokens,
@@ -141,8 +141,9 @@ pub fn lp_tokens_to_trading_tokens(
 ) -> Result<TradingTokenResult, Refusal>
     ensures { result ≡ lp_tokens_to_trading_tokens direction lp.0 supply.0 net_0.0 net_1.0 }
 {
-    let amount_0 = lp_tokens_to_one_token(lp, supply, net_0, direction)?;
-    let amount_1 = lp_tokens_to_one_token(lp, supply, net_1, direction)?;
+    let amount_0 = lp_tokens_to_one_token(lp, supply, net_0, direction);
+    let amount_1 = lp_tokens_to_one_token(lp, supply, net_1, direction);
+    let (amount_0, amount_1) = (amount_0?, amount_1?);
     Ok(TradingTokenResult {
         amount0: TradingTokens(amount_0),
         amount1: TradingTokens(amount_1),

@@ -8,7 +8,8 @@ use native.Mathlib.Nat.{eq-zero-or-pos, ne_of_gt}
 use native.Mathlib.Omega.{arith}
 use native.Mathlib.Decide.{dec_lt}
 use lib.Arith.{digits_div}
-use borrow.Author.Tests.{ne_eqb}
+use borrow.Author.Tests.{lt-ltb, ne_eqb}
+use Rattle.std.specs.Prelude.{Ok}
 use Rattle.divide.specs.Division.{ceil_div}
 use Rattle.divide.proofs.Digits.{once_less}
 use Rattle.divide.proofs.Long.{parted}
@@ -143,6 +144,11 @@ shares_le amount r s whole h =
     (eq-zero-or-pos whole)
 
 -- ---- answers
+
+-- a number that fits a u64
+pub fit_fits : (n : ℕ) → n < 2 ^ 64 → fit n ≡ Ok n
+unfolding fit
+fit_fits n h = simp (lt-ltb n (2 ^ 64) h)
 
 -- rounded up, by a divisor that is not 0
 pub ceil_is : (n d : ℕ) → 0 < d → ceil_of n d ≡ fit (ceil_div n d)

@@ -8,7 +8,7 @@ ghost use Rattle.rates.specs.Rates.{rate_limits, rate_tests, creator_rate, on_in
 
 use charge::Charges;
 use fees::FEE_RATE_DENOMINATOR_VALUE;
-use refusal::{Refusal, refuse_if};
+use refusal::{Refusal, either, refuse_if};
 
 // A pool's rates, in millionths.
 #[derive(Clone, Copy, Default)]
@@ -72,14 +72,17 @@ impl Rates {
     }
 
     // The rates of an opening: these limits, and share above 1,000,000, 3.
+    #[tactic(auto, using(refusal::proofs::Stages::either_then), unfolding(crate::specs::Rates::rate_tests, refusal::specs::Tests::tested))]
     pub fn check(self) -> Result<(), Refusal>
         ensures { result ≡ tested (rate_tests self) }
     {
-        self.check_limits(self.creator)?;
-        refuse_if(&[(
-            self.share > FEE_RATE_DENOMINATOR_VALUE,
-            Refusal::INVALID_INPUT,
-        )])
+        either(
+            self.check_limits(self.creator),
+            refuse_if(&[(
+                self.share > FEE_RATE_DENOMINATOR_VALUE,
+                Refusal::INVALID_INPUT,
+            )]),
+        )
     }
 }
 

@@ -4,7 +4,7 @@ use mathlib.Core.Path.{◌≡◌, refl, sym, ap, ◌∙◌}
 use mathlib.Core.Bool.{Bool, true, false, cond, false≢true}
 use mathlib.Core.List.{[], ◌∷◌, ◌++◌}
 use Rattle.std.specs.Prelude.{ℕ, Result, Ok, Err, is_ok}
-use Rattle.refusal.specs.Tests.{Tests, ◌then◌, outcome, tested}
+use Rattle.refusal.specs.Tests.{Tests, ◌then◌, outcome, tested, either_of}
 use Rattle.refusal.proofs.Stops.{Passed, outcome_then, outcome_all}
 
 module _ {X : Type 0} where
@@ -63,3 +63,19 @@ pub tested_is : (ts : Tests) → tested ts ≡ outcome ts (λ n. Err n) (Ok tt)
 unfolding tested outcome
 tested_is [] = refl
 tested_is (t ∷ ts) = ap (cond t.0 (Err t.1)) (tested_is ts)
+
+-- two stages of tests as one
+joined : (xs ys : Tests) → either_of (tested xs) (tested ys) ≡ tested (xs then ys)
+unfolding either_of tested ◌then◌
+joined [] ys = refl
+joined (t ∷ xs) ys = go t.0 (joined xs ys)
+  where
+    go :
+        (b : Bool) → either_of (tested xs) (tested ys) ≡ tested (xs ++ ys)
+        → either_of (cond b (Err t.1) (tested xs)) (tested ys) ≡ cond b (Err t.1) (tested (xs ++ ys))
+    go true e = refl
+    go false e = e
+
+pub either_then :
+    (xs ys : Tests) (first second both : Result Unit ℕ) → first ≡ tested xs → second ≡ tested ys → both ≡ either_of first second → both ≡ tested (xs then ys)
+either_then xs ys first second both e f g = g ∙ (λ i. either_of (e i) (f i)) ∙ joined xs ys
