@@ -10,11 +10,12 @@ use lib.Dec.{eqb}
 use Rattle.std.specs.Prelude.{Result, Ok, Err}
 use Rattle.refusal.specs.Refusal.{require_violated}
 use Rattle.refusal.specs.Tests.{Tests, ◌then◌, outcome, tested}
-use Rattle.refusal.proofs.Stops.{facts, Passed, outcome_then, passed_left, passed_right}
+use Rattle.refusal.proofs.Stops.{facts, numbered, Passed, outcome_then, passed_left, passed_right}
 use Rattle.refusal.proofs.Stages.{stage_passed, stage_value}
 use Rattle.rates.specs.declared.Terms.{Terms}
 use Rattle.rates.specs.Rates.{rate_limits, limit_tests as feeLimits, creator_rate, on_input}
 use Rattle.calculator.specs.declared.SwapResult.{SwapResult}
+use Rattle.calculator.specs.Calculator.{quote_tests}
 use Rattle.accounting.specs.declared.Books.{Books}
 use Rattle.accounting.specs.declared.Nets.{Nets}
 use Rattle.accounting.specs.Counters.{of_token, net0, net1, counter_tests}
@@ -71,6 +72,19 @@ module _ (byInput : Bool) (t : Terms) (status : ℕ) (b : Books) (direction amou
 
   abbrev good : Quote
   good = record { result = s; net0 = net0 b; net1 = net1 b; charged = charged_of byInput t zero_in amount s }
+
+  -- no test gives the number 0
+  pub all_numbered : numbered tests ≡ true
+  unfolding all_tests rate_limits counter_tests quote_tests ◌then◌
+  all_numbered = go byInput (looked byInput direction amount moved) zero_in fee (net_in zero_in b) (net_out zero_in b) moved (solver_amount byInput t zero_in s)
+    where
+      go : (i : Bool) (l : ℕ) (z f : Bool) (x y m o : ℕ)
+          → numbered (front_tests t status direction l clock
+          then (wanted_tests i t z amount
+          then (net_tests b t.fee_model
+          then (calculator_tests i f t.rates (creator_rate t) x y m then slippage_tests i o limit)))) ≡ true
+      go true l z f x y m o = refl
+      go false l z f x y m o = refl
 
   -- ---- an accepted quote: all its tests are passed, and it is the definition's result with the nets and the charges
   abbrev looks : Tests

@@ -72,7 +72,7 @@ impl Rates {
     }
 
     // The rates of an opening: these limits, and share above 1,000,000, 3.
-    #[tactic(auto, using(refusal::proofs::Stages::either_then), unfolding(crate::specs::Rates::rate_tests, refusal::specs::Tests::tested))]
+    #[tactic(auto, using(refusal::proofs::Stages::stages_joined), unfolding(crate::specs::Rates::rate_tests, refusal::specs::Tests::tested))]
     pub fn check(self) -> Result<(), Refusal>
         ensures { result ≡ tested (rate_tests self) }
     {

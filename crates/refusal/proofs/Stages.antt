@@ -76,6 +76,6 @@ joined (t ∷ xs) ys = go t.0 (joined xs ys)
     go true e = refl
     go false e = e
 
-pub either_then :
+pub stages_joined :
     (xs ys : Tests) (first second both : Result Unit ℕ) → first ≡ tested xs → second ≡ tested ys → both ≡ either_of first second → both ≡ tested (xs then ys)
-either_then xs ys first second both e f g = g ∙ (λ i. either_of (e i) (f i)) ∙ joined xs ys
+stages_joined xs ys first second both e f g = g ∙ (λ i. either_of (e i) (f i)) ∙ joined xs ys

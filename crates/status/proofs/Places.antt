@@ -16,7 +16,13 @@ abbrev pub place : ℕ → ℕ
 place b = 1 * 2 ^ b % 2 ^ 64
 
 module _ (status : ℕ) where
+  pub bit_within : (b : ℕ) → b ≤ 2 → status / 2 ^ b % 2 * place b ≤ status
+  bit_within = three (λ b. status / 2 ^ b % 2 * place b ≤ status) (omega arith) (omega arith) (omega arith)
+
   module _ (flag : ℕ) (f : flag ≤ 1) where
+    pub flag_fits : (b : ℕ) → b ≤ 2 → flag * place b < 2 ^ 64
+    flag_fits = three (λ b. flag * place b < 2 ^ 64) (omega arith) (omega arith) (omega arith)
+
     pub set_fits : status < 2 ^ 64 → (b : ℕ) → b ≤ 2 → status - status / 2 ^ b % 2 * place b + flag * place b < 2 ^ 64
     set_fits s = three (λ b. status - status / 2 ^ b % 2 * place b + flag * place b < 2 ^ 64) (omega arith) (omega arith) (omega arith)
 

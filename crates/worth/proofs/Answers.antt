@@ -1,11 +1,11 @@
 -- The nets' answer and the amounts' answer make up the worth's one list of tests; what a worth is.
 -- Assumes nothing.
 use Prim.Native.Nat.{ℕ}
-use mathlib.Core.Path.{◌≡◌, sym, ap, ◌∙◌}
-use mathlib.Core.Bool.{Bool}
+use mathlib.Core.Path.{◌≡◌, refl, sym, ap, ◌∙◌}
+use mathlib.Core.Bool.{Bool, true}
 use Rattle.std.specs.Prelude.{Result, Ok, Err}
 use Rattle.refusal.specs.Tests.{Tests, ◌then◌}
-use Rattle.refusal.proofs.Stops.{outcome_map}
+use Rattle.refusal.proofs.Stops.{outcome_map, numbered}
 use Rattle.refusal.proofs.Stages.{stage_err, stage_ok, stage_value}
 use Rattle.accounting.specs.declared.Books.{Books}
 use Rattle.accounting.specs.declared.Nets.{Nets}
@@ -39,6 +39,11 @@ beside nets (Err n) = Err n
 module _ (isDeposit : Bool) (b : Books) (lp : ℕ) where
   abbrev nets_of : Nets
   nets_of = record { net0 = net0 b; net1 = net1 b }
+
+  -- no test gives the number 0
+  pub worth_numbered : numbered (worth_tests isDeposit b lp) ≡ true
+  unfolding ◌then◌ counter_tests amount_tests
+  worth_numbered = refl
 
   pub no_nets : {n : ℕ} → Err n ≡ nets_answer b → Err n ≡ worth_of isDeposit b lp
   unfolding nets_answer worth_of
